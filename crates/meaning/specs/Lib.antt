@@ -1,0 +1,16 @@
+pub mod Basics
+pub mod Graph
+pub mod Pattern
+pub mod Typing
+pub mod Assignment
+pub mod Meaning
+pub mod Answer
+pub mod Record
+pub mod Listing
+pub mod Image
+pub mod Table
+pub mod FullListing
+pub mod Report
+pub mod Page
+pub mod Machine
+pub mod Operations

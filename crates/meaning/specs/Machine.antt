@@ -1,0 +1,73 @@
+-- 01, 'Listing calls' (demand 3): the plain machine, and the host's run, over a list of calls.
+use mathlib.Core.List.{List, [], _∷_, _++_}
+use mathlib.Core.Option.{Option, none, some}
+use mathlib.Core.Bool.{Bool, true, false}
+use Prim.Native.Nat.{ℕ, _+_}
+use lib.ListN.{length, drop}
+use Rattle.meaning.specs.Basics.{Cause}
+use Rattle.meaning.specs.Typing.{Found, typeOf}
+use Rattle.meaning.specs.Record.{Record, recordsIn}
+use Rattle.meaning.specs.Table.{patternOf}
+use Rattle.meaning.specs.FullListing.{fixedFault, fullListing}
+use Rattle.meaning.specs.Page.{Lent, Left, Outcome, unanswered, refused, needs, printed, outcome, left, after}
+
+-- what is compared for each call: refused or not and all that is reported, and what is left in memory
+pub record Turn : Type 0 where
+  pub outcome : Outcome
+  pub left : Left
+
+-- how many records a call printed
+unfoldable pub printedCount : Outcome → ℕ
+printedCount unanswered = 0
+printedCount (refused c) = 0
+printedCount (needs n) = 0
+printedCount (printed rs done) = length rs
+
+-- the plain machine: it holds the full listing and the number k of records printed so far, and is fed with all but the bookmark
+unfoldable pub plainTurn : Cause → List Record → ℕ → Lent → Turn
+plainTurn fault records k c = let o = outcome fault c (drop k records) in record { outcome = o; left = left c o }
+
+unfoldable pub plainRun : Cause → List Record → ℕ → List Lent → List Turn
+plainRun fault records k [] = []
+plainRun fault records k (c ∷ cs) =
+    let t = plainTurn fault records k c in
+    t ∷ plainRun fault records (k + printedCount (t .outcome)) cs
+
+unfoldable pub plainMachine : List ℕ → List ℕ → ℕ → List Lent → List Turn
+plainMachine image words n = plainRun (fixedFault image words n) (fullListing image words n) 0
+
+-- fill a page after a bookmark of any words: what the exported operation does
+unfoldable pub fillPage : List ℕ → List ℕ → ℕ → List ℕ → Lent → Turn
+fillPage image words n bookmark c =
+    let o = outcome (fixedFault image words n) c (after bookmark (fullListing image words n)) in
+    record { outcome = o; left = left c o }
+
+-- the records on the page that a call left, read off its words: as many as it reported, their types known
+unfoldable pub pageRecords : (ℕ → Found) → Turn → List Record
+pageRecords types t = recordsIn types (printedCount (t .outcome)) (t .left .page)
+
+unfoldable pub lastOr : Record → List Record → Record
+lastOr b [] = b
+lastOr b (r ∷ l) = lastOr r l
+
+-- the host's run: each call's bookmark is a copy of the last record printed before it, as the pages show it
+unfoldable pub hostRun : List ℕ → List ℕ → ℕ → List ℕ → List Lent → List Turn
+hostRun image words n bookmark [] = []
+hostRun image words n bookmark (c ∷ cs) =
+    let t = fillPage image words n bookmark c in
+    t ∷ hostRun image words n (lastOr bookmark (pageRecords (typeOf (patternOf words)) t)) cs
+
+-- the records on the pages up to the first one marked done, if one is
+unfoldable pub isDone : Outcome → Bool
+isDone unanswered = false
+isDone (refused c) = false
+isDone (needs n) = false
+isDone (printed rs done) = done
+
+unfoldable pub andThen : List Record → Option (List Record) → Option (List Record)
+andThen l none = none
+andThen l (some m) = some (l ++ m)
+
+unfoldable pub recordsUntilDone : (ℕ → Found) → List Turn → Option (List Record)
+recordsUntilDone types [] = none
+recordsUntilDone types (t ∷ ts) = elim (isDone (t .outcome)) [ true ↦ some (pageRecords types t) | false ↦ andThen (pageRecords types t) (recordsUntilDone types ts) ]

@@ -1,0 +1,73 @@
+-- 01, 'Fill a page': what a call does, given the answers after its bookmark.
+use mathlib.Core.List.{List, [], _∷_, _++_}
+use mathlib.Core.Option.{Option, none, some}
+use mathlib.Core.Bool.{Bool, true, false}
+use Prim.Native.Nat.{ℕ, zero, suc, _-_}
+use lib.Dec.{ltb, leb}
+use lib.ListN.{length, drop}
+use Rattle.meaning.specs.Basics.{if_then_else_, keep, Cause, firstOf, whole}
+use Rattle.meaning.specs.Record.{Record}
+use Rattle.meaning.specs.Listing.{before}
+use Rattle.meaning.specs.Report.{over, reportBytes, wideEnough, causeBytes, bit, cleared}
+
+-- what one call is lent, but for what the listing keeps fixed and for the bookmark
+pub record Lent : Type 0 where
+  pub page : List ℕ
+  pub work : List ℕ
+  pub report : List ℕ
+
+-- what a call hands back to C and leaves in the memory it was lent
+pub record Left : Type 0 where
+  pub result : ℕ
+  pub page : List ℕ
+  pub work : List ℕ
+  pub report : List ℕ
+
+-- what becomes of a call: under 64 bytes for the reported numbers; a refusal up to 22; 23 with the words needed; or records printed, and whether that is all
+pub data Outcome : Type 0 where
+  unanswered : Outcome
+  refused : ℕ × ℕ → Outcome
+  needs : ℕ → Outcome
+  printed : List Record → Bool → Outcome
+
+-- the records that fit whole into n words, in order, up to the first that does not
+unfoldable pub fit : ℕ → List Record → List Record
+fit n [] = []
+fit n (r ∷ l) = if leb (length r) n then r ∷ fit (n - length r) l else []
+
+unfoldable pub join : List Record → List ℕ
+join [] = []
+join (r ∷ l) = r ++ join l
+
+unfoldable pub isEmpty : List Record → Bool
+isEmpty [] = true
+isEmpty (r ∷ l) = false
+
+-- rest: the answers after the bookmark; n: the page's length
+unfoldable pub filled : ℕ → List Record → Outcome
+filled n [] = printed [] true
+filled n (r ∷ l) =
+    if leb (length r) n
+    then printed (fit n (r ∷ l)) (isEmpty (drop (length (fit n (r ∷ l))) (r ∷ l)))
+    else needs (length r)
+
+-- fault: the first cause in what the listing keeps fixed
+unfoldable pub unlessFault : Cause → Outcome → Outcome
+unlessFault none o = o
+unlessFault (some c) o = refused c
+
+unfoldable pub outcome : Cause → Lent → List Record → Outcome
+outcome fault c rest =
+    if wideEnough (c .report)
+    then unlessFault (firstOf fault (whole 22 (ltb (length (c .work)) 20000))) (filled (length (c .page)) rest)
+    else unanswered
+
+unfoldable pub left : Lent → Outcome → Left
+left c unanswered = record { result = 0; page = c .page; work = c .work; report = c .report }
+left c (refused f) = record { result = 1; page = c .page; work = c .work; report = over (causeBytes (some f)) (c .report) }
+left c (needs n) = record { result = 1; page = c .page; work = cleared 20000 (c .work); report = over (reportBytes 23 0 0 0 0 n) (c .report) }
+left c (printed rs done) = record { result = 1; page = over (join rs) (c .page); work = cleared 20000 (c .work); report = over (reportBytes 0 0 (length rs) (length (join rs)) (bit done) 0) (c .report) }
+
+-- the answers after a bookmark: greater in the order of records
+unfoldable pub after : List ℕ → List Record → List Record
+after bookmark l = keep (before bookmark) l

@@ -1,0 +1,1 @@
+// Definitions and theorems only: what the listing engine promises. There is no code here.

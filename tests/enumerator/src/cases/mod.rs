@@ -1,0 +1,30 @@
+//! Comparison cases as text: each case is one call, with every buffer as it is lent
+//! and as the call must leave it. README.md describes the format.
+
+mod dump;
+mod images;
+mod pages;
+mod records;
+mod tables;
+
+use crate::random::source::Source;
+
+/// The text of `count` cases of one sort, or nothing if there is no such sort.
+pub fn text(sort: &str, seed: u64, count: usize, write: &mut dyn FnMut(&str)) -> Option<()> {
+    let batch = match sort {
+        "images" => images::batch,
+        "tables" => tables::batch,
+        "records" => records::batch,
+        "pages" => pages::batch,
+        _ => return None,
+    };
+    let mut source = Source::new(seed);
+    let mut written = 0;
+    while written < count {
+        for case in batch(&mut source).into_iter().take(count - written) {
+            write(&format!("case {written}\n{case}"));
+            written += 1;
+        }
+    }
+    Some(())
+}

@@ -1,0 +1,123 @@
+//! The four operations, with the buffers and reports of the C boundary.
+
+use crate::image;
+use crate::listing::Listing;
+use crate::record::Record;
+use crate::refusal::Refusal;
+use crate::typing::{check, type_words, TYPE_WORDS};
+
+pub const REPORT_BYTES: usize = 64;
+pub const WORK_WORDS: usize = 20_000;
+
+/// The eight numbers of a report: refusal number, row, and what the operation adds.
+pub type Numbers = [u64; 8];
+
+pub fn read_image(image: &[u8], report: &mut [u8]) -> u64 {
+    if report.len() < REPORT_BYTES {
+        return 0;
+    }
+    match image::read(image) {
+        Ok(_) => tell(report, [0; 8]),
+        Err(cause) => tell(report, refused(cause)),
+    }
+}
+
+pub fn check_pattern(pattern: &[u16], types: &mut [u16], report: &mut [u8]) -> u64 {
+    if report.len() < REPORT_BYTES {
+        return 0;
+    }
+    if types.len() < TYPE_WORDS {
+        return tell(report, refused(Refusal::of(17)));
+    }
+    match check(pattern) {
+        Ok((_, found)) => {
+            types[..TYPE_WORDS].copy_from_slice(&type_words(&found));
+            tell(report, [0; 8])
+        }
+        Err(cause) => {
+            types[..TYPE_WORDS].fill(0);
+            tell(report, refused(cause))
+        }
+    }
+}
+
+pub fn judge_record(
+    image: &[u8],
+    pattern: &[u16],
+    restrictor: u64,
+    record: &[u16],
+    work: &mut [u16],
+    report: &mut [u8],
+) -> u64 {
+    Listing::new(image, pattern, restrictor).judge(record, work, report)
+}
+
+pub fn fill_page(
+    image: &[u8],
+    pattern: &[u16],
+    restrictor: u64,
+    bookmark: &[u16],
+    page: &mut [u16],
+    work: &mut [u16],
+    report: &mut [u8],
+) -> u64 {
+    Listing::new(image, pattern, restrictor).fill_page(bookmark, page, work, report)
+}
+
+impl Listing {
+    /// The first cause through 22.
+    pub fn refusal(&self, work: &[u16]) -> Option<Refusal> {
+        self.cause.or((work.len() < WORK_WORDS).then_some(Refusal::of(22)))
+    }
+
+    pub fn judge(&self, record: &[u16], work: &mut [u16], report: &mut [u8]) -> u64 {
+        if report.len() < REPORT_BYTES {
+            return 0;
+        }
+        if let Some(cause) = self.refusal(work) {
+            return tell(report, refused(cause));
+        }
+        work[..WORK_WORDS].fill(0);
+        let yes = self.records.iter().any(|one| one == record);
+        tell(report, [0, 0, yes as u64, 0, 0, 0, 0, 0])
+    }
+
+    pub fn fill_page(&self, bookmark: &[u16], page: &mut [u16], work: &mut [u16], report: &mut [u8]) -> u64 {
+        if report.len() < REPORT_BYTES {
+            return 0;
+        }
+        if let Some(cause) = self.refusal(work) {
+            return tell(report, refused(cause));
+        }
+        work[..WORK_WORDS].fill(0);
+        let later: Vec<&Record> = self.records.iter().filter(|one| one.as_slice() > bookmark).collect();
+        if let Some(first) = later.first().filter(|first| first.len() > page.len()) {
+            return tell(report, [23, 0, 0, 0, 0, first.len() as u64, 0, 0]);
+        }
+        let (mut count, mut used) = (0, 0);
+        while count < later.len() && used + later[count].len() <= page.len() {
+            page[used..used + later[count].len()].copy_from_slice(later[count]);
+            used += later[count].len();
+            count += 1;
+        }
+        let done = count == later.len();
+        tell(report, [0, 0, count as u64, used as u64, done as u64, 0, 0, 0])
+    }
+}
+
+pub fn refused(cause: Refusal) -> Numbers {
+    [cause.number, cause.row, 0, 0, 0, 0, 0, 0]
+}
+
+/// Writes the eight numbers, low byte first, and gives C its 1.
+pub fn tell(report: &mut [u8], numbers: Numbers) -> u64 {
+    for (place, number) in report.chunks_exact_mut(8).zip(numbers) {
+        place.copy_from_slice(&number.to_le_bytes());
+    }
+    1
+}
+
+/// The eight numbers of a report that was written.
+pub fn numbers(report: &[u8]) -> Numbers {
+    std::array::from_fn(|at| u64::from_le_bytes(std::array::from_fn(|byte| report[8 * at + byte])))
+}

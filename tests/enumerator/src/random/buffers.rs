@@ -1,0 +1,73 @@
+//! Lent memory of random lengths, with contents that show what a call has written.
+
+use super::source::Source;
+use crate::machine::Lent;
+
+/// Mostly one word over and over, so that dumps stay short; now and then all random.
+fn guard_words(source: &mut Source, length: usize) -> Vec<u16> {
+    if length < 64 || source.one_in(50) {
+        return source.words(length);
+    }
+    let filler = source.word() | 1;
+    let mut words = vec![filler; length];
+    for _ in 0..6 {
+        let at = source.below(length);
+        words[at] = source.word();
+    }
+    words
+}
+
+/// Usually enough for the eight numbers.
+pub fn report(source: &mut Source) -> Vec<u8> {
+    let length = match source.below(40) {
+        0 => source.below(64),
+        1 => 63,
+        2 => 0,
+        3..=8 => source.between(65, 80),
+        _ => 64,
+    };
+    source.bytes(length)
+}
+
+/// Usually enough for the 48 words.
+pub fn types(source: &mut Source) -> Vec<u16> {
+    let length = match source.below(30) {
+        0 => source.below(48),
+        1 => 47,
+        2..=6 => source.between(49, 60),
+        _ => 48,
+    };
+    source.words(length)
+}
+
+/// Usually enough for the work of a listing.
+pub fn work(source: &mut Source) -> Vec<u16> {
+    let length = match source.below(40) {
+        0 => source.below(20_000),
+        1 => 19_999,
+        2 => 0,
+        3..=15 => source.between(20_001, 20_010),
+        _ => 20_000,
+    };
+    guard_words(source, length)
+}
+
+/// Around the length of the record that comes next, of a few records, or anything.
+pub fn page(source: &mut Source, next: usize) -> Vec<u16> {
+    let length = match source.below(10) {
+        0 => next.saturating_sub(1),
+        1 => next,
+        2 => next + 1,
+        3 => source.below(next + 1),
+        4..=6 => next + source.below(3 * next + 1),
+        7 => source.below(60),
+        8 => source.between(100, 2_000),
+        _ => 0,
+    };
+    guard_words(source, length)
+}
+
+/// All that a call to fill a page is lent but the bookmark.
+pub fn lent(source: &mut Source, next: usize) -> Lent {
+    Lent { page: page(source, next), work: work(source), report: report(source) }
+}

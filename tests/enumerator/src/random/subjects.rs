@@ -1,0 +1,65 @@
+//! What a listing keeps fixed, drawn at random: image, pattern and restrictor.
+
+use super::cost::affordable;
+use super::source::Source;
+use super::{damage, graphs, tables};
+use crate::listing::Listing;
+
+#[derive(Clone, Debug)]
+pub struct Subject {
+    pub image: Vec<u8>,
+    pub pattern: Vec<u16>,
+    pub restrictor: u64,
+}
+
+impl Subject {
+    pub fn listing(&self) -> Listing {
+        Listing::new(&self.image, &self.pattern, self.restrictor)
+    }
+}
+
+/// Nothing fixed gives cause for a refusal, and the listing is cheap. Cases that cost
+/// too much are thrown away and drawn again.
+pub fn sound(source: &mut Source) -> Subject {
+    loop {
+        let draft = if source.one_in(5) { graphs::long(source) } else { graphs::small(source) };
+        let size = source.below(7);
+        let pattern = if source.one_in(3) { tables::repeated(source, size) } else { tables::sound(source, size) };
+        let restrictor = source.between(1, 4) as u64;
+        let subject = Subject { image: draft.image(), pattern, restrictor };
+        if affordable(&subject.image, &subject.pattern, subject.restrictor) {
+            return subject;
+        }
+    }
+}
+
+/// As `sound`, and the listing has records.
+pub fn fruitful(source: &mut Source) -> (Subject, Listing) {
+    loop {
+        let subject = sound(source);
+        let listing = subject.listing();
+        if !listing.records.is_empty() {
+            return (subject, listing);
+        }
+    }
+}
+
+/// Mostly sound; sometimes one or more of the fixed things gives cause for a refusal.
+pub fn any(source: &mut Source) -> Subject {
+    loop {
+        let mut subject = if source.one_in(4) { sound(source) } else { fruitful(source).0 };
+        if source.one_in(16) {
+            let way = source.pick(&damage::ALL);
+            subject.image = damage::damaged(source, way).0;
+        }
+        if source.one_in(16) {
+            subject.pattern = tables::any(source).1;
+        }
+        if source.one_in(16) {
+            subject.restrictor = source.pick(&[0, 5, 65536, 65537, 1 << 32, (1 << 32) + 1, u64::MAX]);
+        }
+        if affordable(&subject.image, &subject.pattern, subject.restrictor) {
+            return subject;
+        }
+    }
+}

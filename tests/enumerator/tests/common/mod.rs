@@ -1,0 +1,101 @@
+//! What the tests share: the graph T, the pattern P, and short ways to make calls.
+#![allow(dead_code)]
+
+use enumerator::listing::Listing;
+use enumerator::operations::{numbers, Numbers};
+
+/// The word that fills lent memory before a call.
+pub const GUARD: u16 = 0xa5c3;
+
+pub const P: [u16; 10] = [2, 1, 0, 0, 0, 8, 0, 0, 1, 65535];
+
+/// The image of T, number by number.
+pub fn t() -> Vec<u8> {
+    let words = [16, 6, 22, 18, 40, 0, 40, 0, 10, 20, 30, 0, 1, 1, 1, 2, 1, 0, 2, 0];
+    bytes(&words)
+}
+
+pub fn bytes(words: &[u16]) -> Vec<u8> {
+    words.iter().flat_map(|word| word.to_le_bytes()).collect()
+}
+
+/// An image with a directory that fits.
+pub fn image(nodes: &[u16], edges: &[[u16; 3]], labels: &[[u16; 2]], properties: &[[u16; 3]]) -> Vec<u8> {
+    let lengths = [2 * nodes.len(), 6 * edges.len(), 4 * labels.len(), 6 * properties.len()];
+    let mut words = Vec::new();
+    let mut offset = 16;
+    for length in lengths {
+        words.extend([offset as u16, length as u16]);
+        offset += length;
+    }
+    words.extend(nodes);
+    words.extend(edges.concat());
+    words.extend(labels.concat());
+    words.extend(properties.concat());
+    bytes(&words)
+}
+
+pub fn plain(nodes: usize, edges: &[[u16; 3]]) -> Vec<u8> {
+    let outer: Vec<u16> = (0..nodes as u16).collect();
+    image(&outer, edges, &[], &[])
+}
+
+/// The records of a listing that nothing gives cause to refuse.
+pub fn records(image: &[u8], rows: &[[u16; 5]], restrictor: u64) -> Vec<Vec<u16>> {
+    let listing = Listing::new(image, &rows.concat(), restrictor);
+    assert_eq!(listing.cause, None);
+    listing.records
+}
+
+/// The number and row by which the fixed things are refused; zeros if they are not.
+pub fn cause(image: &[u8], pattern: &[u16], restrictor: u64) -> (u64, u64) {
+    let listing = Listing::new(image, pattern, restrictor);
+    listing.cause.map_or((0, 0), |cause| (cause.number, cause.row))
+}
+
+/// The number and row of the checker alone.
+pub fn checked(rows: &[[u16; 5]]) -> (u64, u64) {
+    checked_words(&rows.concat())
+}
+
+pub fn checked_words(words: &[u16]) -> (u64, u64) {
+    let (mut types, mut report) = ([GUARD; 48], [0xee; 64]);
+    assert_eq!(enumerator::operations::check_pattern(words, &mut types, &mut report), 1);
+    let told = numbers(&report);
+    assert_eq!(told[2..], [0; 6]);
+    if told[0] != 0 {
+        assert_eq!(types, [0; 48]);
+    }
+    (told[0], told[1])
+}
+
+/// The number and row of the reader alone.
+pub fn read(image: &[u8]) -> (u64, u64) {
+    let mut report = [0xee; 64];
+    assert_eq!(enumerator::operations::read_image(image, &mut report), 1);
+    let told = numbers(&report);
+    assert_eq!(told[2..], [0; 6]);
+    (told[0], told[1])
+}
+
+pub struct Filled {
+    pub told: Numbers,
+    pub page: Vec<u16>,
+    pub work: Vec<u16>,
+}
+
+/// One page call with guarded memory; the work buffer has three words to spare.
+pub fn fill(image: &[u8], pattern: &[u16], restrictor: u64, bookmark: &[u16], page_words: usize) -> Filled {
+    let (mut page, mut work, mut report) = (vec![GUARD; page_words], vec![GUARD; 20_003], vec![0xee; 70]);
+    let result = enumerator::operations::fill_page(
+        image, pattern, restrictor, bookmark, &mut page, &mut work, &mut report,
+    );
+    assert_eq!(result, 1);
+    assert_eq!(report[64..], [0xee; 6]);
+    Filled { told: numbers(&report), page, work }
+}
+
+/// Whether a work buffer is as an accepted call leaves it.
+pub fn cleared(work: &[u16]) -> bool {
+    work[..20_000].iter().all(|&word| word == 0) && work[20_000..].iter().all(|&word| word == GUARD)
+}
