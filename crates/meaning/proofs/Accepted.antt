@@ -162,7 +162,7 @@ unfolding opened
 any-false f (List·Memᴰ·head {x = y} {xs = ys} q) e = ap f q ∙ or-false-l (f y) (anyOf ys f) e
 any-false f (List·Memᴰ·tail {x = y} {xs = ys} m) e = any-false f m (or-false-r (f y) (anyOf ys f) e)
 
-in-upFrom : (n i x : ℕ) → i ≤ x → x < i + n → x ∈ upFrom n i
+pub in-upFrom : (n i x : ℕ) → i ≤ x → x < i + n → x ∈ upFrom n i
 unfolding opened
 in-upFrom zero i x h k = absurd (omega arith)
 in-upFrom (suc n) i x h k = go (eqb x i) refl (in-upFrom n (suc i) x)
@@ -186,7 +186,7 @@ no-absent-clash : absent ≡ clash → ⊥
 unfolding opened
 no-absent-clash e = let z : _≡_ {A = ℕ} 0 1 = cc in omega arith
 
-typed-pattern : (π : Pattern) → ((x : ℕ) → inVar π x ≡ true → isVariable x ≡ true) → untyped π ≡ false → (x : ℕ) → typeOf π x ≢ clash
+pub typed-pattern : (π : Pattern) → ((x : ℕ) → inVar π x ≡ true → isVariable x ≡ true) → untyped π ≡ false → (x : ℕ) → typeOf π x ≢ clash
 unfolding opened
 typed-pattern π v u x = go (inVar π x) refl
   where

@@ -18,3 +18,14 @@ pub mod Rows
 pub mod Accepted
 pub mod ImageRead
 pub mod Examples
+pub mod Untyped
+pub mod Lists
+pub mod TypeWords
+pub mod Reading
+pub mod SameRecord
+pub mod Granted
+pub mod Pages
+pub mod Calls
+pub mod Bytes
+pub mod Judged
+pub mod After

@@ -23,7 +23,7 @@ unfolding opened
 len-append (stop u) q = omega arith
 len-append (step u e p) q = omega (arith, len-append p q)
 
-length-places : (p : Walk) → length (places p) ≡ 2 * len p + 1
+pub length-places : (p : Walk) → length (places p) ≡ 2 * len p + 1
 unfolding opened
 length-places (stop u) = refl
 length-places (step u e p) = omega (arith, length-places p)

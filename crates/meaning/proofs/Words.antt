@@ -43,7 +43,7 @@ module _ (n m k : ℕ) (hn : n < 65535) (hm : m < 65535) (hk : k < 65535) where
   unfolding opened
   starts w v t q e = e ∙ ap (λ (x : Value). valueWords x ++ t) q
 
-  only-nothing : (τ : Ty) (w : Value) (s t : List ℕ) → Of n m k τ w → 65535 ∷ s ≡ valueWords w ++ t → (w ≡ nothing) × (s ≡ t)
+  pub only-nothing : (τ : Ty) (w : Value) (s t : List ℕ) → Of n m k τ w → 65535 ∷ s ≡ valueWords w ++ t → (w ≡ nothing) × (s ≡ t)
   unfolding opened
   only-nothing Node w s t (u, h, q) e = let z : 65535 ≡ u = cons-head (starts w (one (theNode u)) t q e) in absurd (omega arith)
   only-nothing Edge w s t (u, h, q) e = let z : 65535 ≡ u = cons-head (starts w (one (theEdge u)) t q e) in absurd (omega arith)

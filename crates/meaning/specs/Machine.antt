@@ -1,15 +1,17 @@
 -- 01, 'Listing calls' (demand 3): the plain machine, and the host's run, over a list of calls.
-use mathlib.Core.List.{List, [], _∷_, _++_}
+use mathlib.Core.List.{List, [], _++_, _∷_}
 use mathlib.Core.Option.{Option, none, some}
-use mathlib.Core.Bool.{Bool, true, false}
-use Prim.Native.Nat.{ℕ, _+_}
-use lib.ListN.{length, drop}
-use Rattle.meaning.specs.Basics.{Cause}
-use Rattle.meaning.specs.Typing.{Found, typeOf}
-use Rattle.meaning.specs.Record.{Record, recordsIn}
-use Rattle.meaning.specs.Table.{patternOf}
+use mathlib.Core.Bool.{Bool, false, true}
+use Prim.Native.Nat.{_+_, ℕ}
+use lib.Dec.{eqb}
+use lib.ListN.{drop, length}
+use Rattle.meaning.specs.Basics.{Cause, if_then_else_}
 use Rattle.meaning.specs.FullListing.{fixedFault, fullListing}
-use Rattle.meaning.specs.Page.{Lent, Left, Outcome, unanswered, refused, needs, printed, outcome, left, after}
+use Rattle.meaning.specs.Page.{Left, Lent, Outcome, after, left, needs, outcome, printed, refused, unanswered}
+use Rattle.meaning.specs.Record.{Record, recordsIn}
+use Rattle.meaning.specs.Report.{reported}
+use Rattle.meaning.specs.Table.{patternOf}
+use Rattle.meaning.specs.Typing.{Found, typeOf}
 
 -- what is compared for each call: refused or not and all that is reported, and what is left in memory
 pub record Turn : Type 0 where
@@ -56,6 +58,16 @@ hostRun image words n bookmark [] = []
 hostRun image words n bookmark (c ∷ cs) =
     let t = fillPage image words n bookmark c in
     t ∷ hostRun image words n (lastOr bookmark (pageRecords (typeOf (patternOf words)) t)) cs
+
+-- the same by a host that knows nothing but what C hands it: the count is number 2 of the report where the call was answered
+unfoldable pub shownRecords : (ℕ → Found) → Left → List Record
+shownRecords types f = if eqb (f .result) 1 then recordsIn types (reported 2 (f .report)) (f .page) else []
+
+unfoldable pub hostCalls : List ℕ → List ℕ → ℕ → List ℕ → List Lent → List Left
+hostCalls image words n bookmark [] = []
+hostCalls image words n bookmark (c ∷ cs) =
+    let f = fillPage image words n bookmark c .left in
+    f ∷ hostCalls image words n (lastOr bookmark (shownRecords (typeOf (patternOf words)) f)) cs
 
 -- the records on the pages up to the first one marked done, if one is
 unfoldable pub isDone : Outcome → Bool

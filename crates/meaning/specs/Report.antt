@@ -1,11 +1,12 @@
 -- 01, 'What the engine covers': eight 64-bit numbers in a lent area of 64 bytes, and what a call writes over lent memory.
-use mathlib.Core.List.{List, [], _∷_, _++_}
-use mathlib.Core.Option.{Option, none, some}
-use mathlib.Core.Bool.{Bool, true, false}
-use Prim.Native.Nat.{ℕ, zero, suc, _/_, _%_}
+use mathlib.Core.List.{List, [], _++_, _∷_}
+use mathlib.Core.Option.{none, some}
+use mathlib.Core.Bool.{Bool, false, true}
+use Prim.Native.Nat.{_%_, _*_, _+_, _/_, suc, zero, ℕ}
 use lib.Dec.{leb}
-use lib.ListN.{length, drop, replicate}
-use Rattle.meaning.specs.Basics.{if_then_else_, each, Cause}
+use lib.ListN.{drop, length, replicate, take}
+use Rattle.meaning.specs.Basics.{Cause, each}
+use Rattle.meaning.specs.Image.{number}
 
 -- v over the beginning of what was lent; what is past it stays
 unfoldable pub over : List ℕ → List ℕ → List ℕ
@@ -19,6 +20,14 @@ digits (suc n) x = x % 256 ∷ digits n (x / 256)
 -- [0] refusal number, [1] row, then [2] to [5]; [6] and [7] are 0
 unfoldable pub reportBytes : ℕ → ℕ → ℕ → ℕ → ℕ → ℕ → List ℕ
 reportBytes number row a b c d = each (number ∷ row ∷ a ∷ b ∷ c ∷ d ∷ 0 ∷ 0 ∷ []) (digits 8)
+
+-- the number that n digits are, and number i of a report
+unfoldable pub undigits : List ℕ → ℕ
+undigits [] = 0
+undigits (d ∷ l) = d + 256 * undigits l
+
+unfoldable pub reported : ℕ → List ℕ → ℕ
+reported i report = undigits (take 8 (drop (8 * i) report))
 
 unfoldable pub wideEnough : List ℕ → Bool
 wideEnough report = leb 64 (length report)

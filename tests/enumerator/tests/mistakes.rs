@@ -55,12 +55,9 @@ fn one_line_for_each_derivation() {
 #[test]
 fn two_derivations_with_two_assignments_stay_two_lines() {
     // 0 to 1 to 2 as one factor of two edges, or as two factors of one edge each.
-    let nested = [[2, 1, 0, 0, 0], [8, 0, 0, 1, 65535], [8, 1, 0, 1, 1], [8, 1, 0, 2, 2]];
-    let one = records(&t(), &nested[..3], 1);
-    assert_eq!(one.len(), 3);
-    let apart = [nested[0], nested[1], [8, 1, 0, 1, 65535]];
-    let both = records(&t(), &apart, 1);
-    let long: Vec<&Vec<u16>> = both.iter().filter(|record| record[0] == 2).collect();
+    let nested = [[2, 1, 0, 0, 0], [8, 0, 0, 1, 65535], [8, 1, 0, 1, 65535]];
+    let all = records(&t(), &nested, 1);
+    let long: Vec<&Vec<u16>> = all.iter().filter(|record| record[0] == 2).collect();
     let path = [2, 0, 0, 1, 1, 2];
     let (low, high) = ([1, 0, 0, 1, 0], [1, 1, 1, 2, 1]);
     let as_one = [&path[..], &[1], &path, &[2], &low, &high].concat();

@@ -286,12 +286,11 @@ fn page_after_a_bookmark_that_is_no_record() {
 
 #[test]
 fn a_page_stops_at_the_first_record_that_does_not_fit() {
-    // Words needed: 10 and 10, then 17; eleven words hold one record and no more.
+    // The first two records take 10 words each.
     let filled = fill(&t(), &P, 1, &[], 19);
     assert_eq!(filled.told, [0, 0, 1, 10, 0, 0, 0, 0]);
     assert_eq!(filled.page[10..], [GUARD; 9]);
-    // Long records between short ones: the listing is 0 0 .., 1 .., and a short one
-    // that comes after a long one must not overtake it.
+    // A short record that would fit must not overtake the long one before it.
     let rows = [[2, 1, 0, 0, 0], [8, 0, 0, 2, 2], [2, 2, 0, 0, 0], [3, 0, 0, 0, 0], [6, 2, 3, 0, 0], [5, 1, 4, 0, 0]];
     let image = plain(3, &[[0, 1, 1], [1, 2, 1], [2, 1, 1]]);
     let all = records(&image, &rows, 1);

@@ -1,0 +1,182 @@
+-- The full listing over bytes and words: what nothing refuses is a graph and a pattern, and what then holds of every record.
+use mathlib.Core.Path.{_∙_, _≡_, ap, refl, sym}
+use mathlib.Core.List.{List, Memᴰ·of-map, [], _++_, _∷_, append-nil, map}
+use mathlib.Core.Option.{none, some}
+use mathlib.Core.Bool.{_&&_, false, not}
+use mathlib.Core.Logic.{_↔_}
+use Prim.Native.Nat.{_<_, _≤_, suc, zero, ℕ}
+use native.Mathlib.Omega.{arith}
+use lib.Dec.{leb}
+use lib.ListN.{length, length-map}
+use Rattle.meaning.proofs.Accepted.{Accepted, table-accepted}
+use Rattle.meaning.proofs.Causes.{first-none, whole-none}
+use Rattle.meaning.proofs.ImageRead.{Read, image-read}
+use Rattle.meaning.proofs.InGraph.{in-graph}
+use Rattle.meaning.proofs.Listings.{listing-iff, listing-sorted, listing-unique}
+use Rattle.meaning.proofs.Logic.{all-of, no-true}
+use Rattle.meaning.proofs.Opened.{opened}
+use Rattle.meaning.proofs.Paths.{short}
+use Rattle.meaning.proofs.Reading.{Readable}
+use Rattle.meaning.proofs.SameRecord.{answer-readable, one-way, same-answer}
+use Rattle.meaning.proofs.Size.{record-size}
+use Rattle.meaning.proofs.Sorting.{sort→}
+use Rattle.meaning.specs.Answer.{Answer, Base, Restrictor, answers, longest, restrictorOf, simple, trail}
+use Rattle.meaning.specs.Assignment.{Assignment}
+use Rattle.meaning.specs.Basics.{All, Cause, _∈_, firstOf, upFrom, whole}
+use Rattle.meaning.specs.FullListing.{fixedFault, fullListing, unlessRefused}
+use Rattle.meaning.specs.Graph.{Graph, Walk, len}
+use Rattle.meaning.specs.Image.{edgeCount, edgeRow, graphOf, imageFault}
+use Rattle.meaning.specs.Listing.{Before, Listed, Sorted, answerRecord, listing}
+use Rattle.meaning.specs.Pattern.{Pattern}
+use Rattle.meaning.specs.Record.{Record, recordOf}
+use Rattle.meaning.specs.Table.{badLength, patternFault, patternOf, rowsOf, tableFault}
+use Rattle.meaning.specs.Typing.{typeOf}
+
+-- the image and the pattern of a listing that nothing fixed refuses
+pub record Granted (image words : List ℕ) : Type 0 where
+  pub read : Read image
+  pub accepted : Accepted (patternOf words)
+
+some-row : (w : List ℕ) → badLength w ≡ false → 0 < length (rowsOf w)
+unfolding opened
+some-row [] e = no-true e
+some-row (a ∷ []) e = no-true e
+some-row (a ∷ b ∷ []) e = no-true e
+some-row (a ∷ b ∷ c ∷ []) e = no-true e
+some-row (a ∷ b ∷ c ∷ d ∷ []) e = no-true e
+some-row (a ∷ b ∷ c ∷ d ∷ f ∷ w) e = omega arith
+
+pub pattern-accepted : (words : List ℕ) → patternFault words ≡ none → Accepted (patternOf words)
+unfolding opened
+pattern-accepted words e =
+    let p = first-none (whole 11 (badLength words)) (tableFault (rowsOf words)) e in
+    table-accepted (rowsOf words) (some-row words (whole-none 11 (badLength words) (p .0))) (p .1)
+
+pub granted : (image words : List ℕ) (n : ℕ) → fixedFault image words n ≡ none → Granted image words
+unfolding opened
+granted image words n e =
+    let last : Cause = whole 21 (not (leb 1 n && leb n 4)) in
+    let i = first-none (imageFault image) (firstOf (patternFault words) last) e in
+    let p = first-none (patternFault words) last (i .1) in
+    record { read = image-read image (i .0); accepted = pattern-accepted words (p .0) }
+
+unless-none : (c : Cause) (l : List Record) → c ≡ none → unlessRefused c l ≡ l
+unfolding opened
+unless-none c l e = ap (λ (x : Cause). unlessRefused x l) e
+
+module _ (image words : List ℕ) (n : ℕ) (ok : fixedFault image words n ≡ none) where
+  listing-is : fullListing image words n ≡ listing (graphOf image) (restrictorOf n) (patternOf words)
+  unfolding opened
+  listing-is = unless-none (fixedFault image words n) (listing (graphOf image) (restrictorOf n) (patternOf words)) ok
+
+  pub members : (r : Record) → (r ∈ fullListing image words n) ↔ Listed (graphOf image) (restrictorOf n) (patternOf words) r
+  unfolding opened
+  members r =
+      let g = granted image words n ok in
+      let h = listing-iff (graphOf image) (g .read .valid) (patternOf words) (g .accepted .sound) (restrictorOf n) r in
+      ((λ m. h .0 (rw listing-is at m)), (λ l. rw listing-is (h .1 l)))
+
+  -- any strictly rising list with these members is the full listing
+  pub unique : (l : List Record) → Sorted l → ((r : Record) → (r ∈ l) ↔ Listed (graphOf image) (restrictorOf n) (patternOf words) r) → l ≡ fullListing image words n
+  unfolding opened
+  unique l s h =
+      let g = granted image words n ok in
+      listing-unique (graphOf image) (g .read .valid) (patternOf words) (g .accepted .sound) (restrictorOf n) l s h ∙ sym listing-is
+
+  few-nodes : graphOf image .nodes ≤ 200
+  unfolding opened
+  few-nodes = granted image words n ok .read .few-nodes
+
+  length-up : (m i : ℕ) → length (upFrom m i) ≡ m
+  unfolding opened
+  length-up zero i = refl
+  length-up (suc m) i = ap suc (length-up m (suc i))
+
+  few-edges : length (graphOf image .edges) ≤ 200
+  unfolding opened
+  few-edges = let g : edgeCount image ≤ 200 = granted image words n ok .read .few-edges in omega (arith, length-map (upFrom (edgeCount image) 0) (edgeRow image), length-up (edgeCount image) 0)
+
+  longest-few : (ρ : Base) → longest ρ (graphOf image) ≤ 200
+  unfolding opened
+  longest-few trail = few-edges
+  longest-few simple = few-nodes
+
+  -- an answer's path has at most 200 edges
+  pub path-few : (p : Walk) (μ : Assignment) → Answer (graphOf image) (restrictorOf n) (patternOf words) p μ → len p ≤ 200
+  unfolding opened
+  path-few p μ a =
+      let g = granted image words n ok in
+      let ρ : Base = restrictorOf n .base in
+      let k = short (graphOf image) ρ p (in-graph (graphOf image) (g .read .valid) (patternOf words) p μ (a .base-answer .means)) (a .base-answer .restricted) in
+      omega (arith, longest-few ρ, k)
+
+  pub no-longer : (r : Record) → r ∈ fullListing image words n → length r ≤ 20000
+  unfolding opened
+  no-longer r m =
+      let g = granted image words n ok in
+      let h = members r .0 m in
+      let k = record-size (graphOf image) (patternOf words) (g .accepted .sound) (g .accepted .shallow) (h .path) (h .assignment) (h .answer .base-answer .means) (path-few (h .path) (h .assignment) (h .answer)) in
+      rw (h .record-is) k
+
+  -- records followed by words: what follows is the same where the whole is, so no record begins another
+  pub records-part : (r s : Record) → r ∈ fullListing image words n → s ∈ fullListing image words n → (x y : List ℕ) → r ++ x ≡ s ++ y → x ≡ y
+  unfolding opened
+  records-part r s m l x y e =
+      let g = granted image words n ok in
+      let h = members r .0 m in
+      let k = members s .0 l in
+      one-way (graphOf image) (g .read .valid) (patternOf words) (g .accepted) 200 (omega (arith, few-nodes)) (omega (arith, few-edges)) (omega arith)
+      (h .path) (k .path) (h .assignment) (k .assignment) (h .answer .base-answer .means) (k .answer .base-answer .means) (path-few (h .path) (h .assignment) (h .answer)) (path-few (k .path) (k .assignment) (k .answer)) x y
+      (sym (ap (λ (l : List ℕ). l ++ x) (h .record-is)) ∙ (e ∙ ap (λ (l : List ℕ). l ++ y) (k .record-is)))
+
+  pub none-begins : (r s : Record) → r ∈ fullListing image words n → s ∈ fullListing image words n → (x : List ℕ) → r ++ x ≡ s → x ≡ []
+  unfolding opened
+  none-begins r s m l x e = records-part r s m l x [] (e ∙ sym (append-nil s))
+
+  -- two answers with one record: the same path, and the same value at every variable
+  pub same-record : (p q : Walk) (μ ν : Assignment) → Answer (graphOf image) (restrictorOf n) (patternOf words) p μ → Answer (graphOf image) (restrictorOf n) (patternOf words) q ν → recordOf p μ ≡ recordOf q ν → (p ≡ q) × ((x : ℕ) → μ x ≡ ν x)
+  unfolding opened
+  same-record p q μ ν a b e =
+      let g = granted image words n ok in
+      same-answer (graphOf image) (g .read .valid) (patternOf words) (g .accepted) 200 (omega (arith, few-nodes)) (omega (arith, few-edges)) (omega arith) p q μ ν (a .base-answer .means) (b .base-answer .means) (path-few p μ a) (path-few q ν b) e
+
+  -- every record is read off words that begin with it
+  pub readable : (r : Record) → r ∈ fullListing image words n → Readable (typeOf (patternOf words)) r
+  unfolding opened
+  readable r m =
+      let g = granted image words n ok in
+      let h = members r .0 m in
+      rw (h .record-is) (answer-readable (graphOf image) (g .read .valid) (patternOf words) (g .accepted) 200 (omega (arith, few-nodes)) (omega (arith, few-edges)) (omega arith) (h .path) (h .assignment) (h .answer .base-answer .means) (path-few (h .path) (h .assignment) (h .answer)))
+
+-- ------------------------------------------------------------------ for every image, pattern and restrictor, refused or not
+unless-all : (P : List Record → Type 0) (c : Cause) (l : List Record) → P [] → (c ≡ none → P l) → P (unlessRefused c l)
+unfolding opened
+unless-all P none l h k = k refl
+unless-all P (some a) l h k = h
+
+pub full-sorted : (image words : List ℕ) (n : ℕ) → Sorted (fullListing image words n)
+unfolding opened
+full-sorted image words n = unless-all Sorted (fixedFault image words n) (listing (graphOf image) (restrictorOf n) (patternOf words)) tt (λ e. listing-sorted (graphOf image) (restrictorOf n) (patternOf words))
+
+-- where something fixed is refused the listing is empty
+pub refused-empty : (image words : List ℕ) (n : ℕ) (c : ℕ × ℕ) → fixedFault image words n ≡ some c → fullListing image words n ≡ []
+unfolding opened
+refused-empty image words n c e = ap (λ (x : Cause). unlessRefused x (listing (graphOf image) (restrictorOf n) (patternOf words))) e
+
+not-empty : (G : Graph) (ρ : Restrictor) (π : Pattern) → All (Before []) (listing G ρ π)
+unfolding opened
+not-empty G ρ π = all-of (Before []) (listing G ρ π) (λ r m.
+    let w = Memᴰ·of-map answerRecord (answers G ρ π) (sort→ (map answerRecord (answers G ρ π)) m) in
+    rw (← w .2) refl)
+
+pub full-not-empty : (image words : List ℕ) (n : ℕ) → All (Before []) (fullListing image words n)
+unfolding opened
+full-not-empty image words n = unless-all (All (Before [])) (fixedFault image words n) (listing (graphOf image) (restrictorOf n) (patternOf words)) tt (λ e. not-empty (graphOf image) (restrictorOf n) (patternOf words))
+
+pub full-readable : (image words : List ℕ) (n : ℕ) → All (Readable (typeOf (patternOf words))) (fullListing image words n)
+unfolding opened
+full-readable image words n = go (fixedFault image words n) refl
+  where
+    go : (c : Cause) → fixedFault image words n ≡ c → All (Readable (typeOf (patternOf words))) (fullListing image words n)
+    go none e = all-of (Readable (typeOf (patternOf words))) (fullListing image words n) (readable image words n e)
+    go (some c) e = rw (refused-empty image words n c e) tt

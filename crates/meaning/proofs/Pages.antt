@@ -1,0 +1,107 @@
+-- What one call prints: the beginning of the answers that are left, all of them if it says done; and its page shows it.
+use mathlib.Core.Path.{_∙_, _≡_, ap, refl, sym}
+use mathlib.Core.List.{List, [], _++_, _∷_, append-nil}
+use mathlib.Core.Option.{none, some}
+use mathlib.Core.Bool.{Bool, false, true}
+use Prim.Native.Nat.{_-_, ℕ}
+use lib.Dec.{leb, ltb}
+use lib.ListN.{drop, length}
+use Rattle.meaning.proofs.Logic.{no-false}
+use Rattle.meaning.proofs.Opened.{opened}
+use Rattle.meaning.proofs.Reading.{Readable, records-read}
+use Rattle.meaning.specs.Basics.{All, Cause, firstOf, if_then_else_, whole}
+use Rattle.meaning.specs.Machine.{isDone, pageRecords, printedCount}
+use Rattle.meaning.specs.Page.{Lent, Outcome, filled, fit, isEmpty, join, left, needs, outcome, printed, refused, unanswered, unlessFault}
+use Rattle.meaning.specs.Record.{Record}
+use Rattle.meaning.specs.Report.{wideEnough}
+use Rattle.meaning.specs.Typing.{Found}
+
+unfoldable pub printedRecords : Outcome → List Record
+printedRecords unanswered = []
+printedRecords (refused c) = []
+printedRecords (needs n) = []
+printedRecords (printed rs done) = rs
+
+pub count-is : (o : Outcome) → printedCount o ≡ length (printedRecords o)
+unfolding opened printedRecords
+count-is unanswered = refl
+count-is (refused c) = refl
+count-is (needs n) = refl
+count-is (printed rs done) = refl
+
+-- ------------------------------------------------------------------ a beginning of what is left
+fit-prefix : (n : ℕ) (l : List Record) → fit n l ++ drop (length (fit n l)) l ≡ l
+unfolding opened printedRecords
+fit-prefix n [] = refl
+fit-prefix n (r ∷ l) = go (leb (length r) n) (fit-prefix (n - length r) l)
+  where
+    go : (b : Bool) → fit (n - length r) l ++ drop (length (fit (n - length r) l)) l ≡ l → (if b then r ∷ fit (n - length r) l else []) ++ drop (length (if b then r ∷ fit (n - length r) l else [])) (r ∷ l) ≡ r ∷ l
+    go true ih = ap (λ (t : List Record). r ∷ t) ih
+    go false ih = refl
+
+abbrev Begins : Outcome → List Record → Type 0
+Begins o rest = printedRecords o ++ drop (length (printedRecords o)) rest ≡ rest
+
+filled-begins : (n : ℕ) (rest : List Record) → Begins (filled n rest) rest
+unfolding opened printedRecords
+filled-begins n [] = refl
+filled-begins n (r ∷ l) = go (leb (length r) n)
+  where
+    go : (b : Bool) → Begins (if b then printed (fit n (r ∷ l)) (isEmpty (drop (length (fit n (r ∷ l))) (r ∷ l))) else needs (length r)) (r ∷ l)
+    go true = fit-prefix n (r ∷ l)
+    go false = refl
+
+unless-begins : (c : Cause) (n : ℕ) (rest : List Record) → Begins (unlessFault c (filled n rest)) rest
+unfolding opened printedRecords
+unless-begins none n rest = filled-begins n rest
+unless-begins (some f) n rest = refl
+
+pub outcome-begins : (fault : Cause) (c : Lent) (rest : List Record) → printedRecords (outcome fault c rest) ++ drop (length (printedRecords (outcome fault c rest))) rest ≡ rest
+unfolding opened printedRecords
+outcome-begins fault c rest = go (wideEnough (c .report))
+  where
+    go : (b : Bool) → Begins (if b then unlessFault (firstOf fault (whole 22 (ltb (length (c .work)) 20000))) (filled (length (c .page)) rest) else unanswered) rest
+    go true = unless-begins (firstOf fault (whole 22 (ltb (length (c .work)) 20000))) (length (c .page)) rest
+    go false = refl
+
+-- ------------------------------------------------------------------ done: all of what is left
+abbrev All-if-done : Outcome → List Record → Type 0
+All-if-done o rest = isDone o ≡ true → printedRecords o ≡ rest
+
+empty-drop : (a l : List Record) → a ++ drop (length a) l ≡ l → isEmpty (drop (length a) l) ≡ true → a ≡ l
+unfolding opened printedRecords
+empty-drop a l e h = go (drop (length a) l) e h
+  where
+    go : (d : List Record) → a ++ d ≡ l → isEmpty d ≡ true → a ≡ l
+    go [] q k = sym (append-nil a) ∙ q
+    go (x ∷ d) q k = no-false k
+
+filled-done : (n : ℕ) (rest : List Record) → All-if-done (filled n rest) rest
+unfolding opened printedRecords
+filled-done n [] = λ e. refl
+filled-done n (r ∷ l) = go (leb (length r) n)
+  where
+    go : (b : Bool) → All-if-done (if b then printed (fit n (r ∷ l)) (isEmpty (drop (length (fit n (r ∷ l))) (r ∷ l))) else needs (length r)) (r ∷ l)
+    go true = λ e. empty-drop (fit n (r ∷ l)) (r ∷ l) (fit-prefix n (r ∷ l)) e
+    go false = λ e. no-false e
+
+unless-done : (c : Cause) (n : ℕ) (rest : List Record) → All-if-done (unlessFault c (filled n rest)) rest
+unfolding opened printedRecords
+unless-done none n rest = filled-done n rest
+unless-done (some f) n rest = λ e. no-false e
+
+pub outcome-done : (fault : Cause) (c : Lent) (rest : List Record) → isDone (outcome fault c rest) ≡ true → printedRecords (outcome fault c rest) ≡ rest
+unfolding opened printedRecords
+outcome-done fault c rest = go (wideEnough (c .report))
+  where
+    go : (b : Bool) → All-if-done (if b then unlessFault (firstOf fault (whole 22 (ltb (length (c .work)) 20000))) (filled (length (c .page)) rest) else unanswered) rest
+    go true = unless-done (firstOf fault (whole 22 (ltb (length (c .work)) 20000))) (length (c .page)) rest
+    go false = λ e. no-false e
+
+-- ------------------------------------------------------------------ what the page shows
+pub page-shows : (f : ℕ → Found) (c : Lent) (o : Outcome) → All (Readable f) (printedRecords o) → pageRecords f (record { outcome = o; left = left c o }) ≡ printedRecords o
+unfolding opened printedRecords
+page-shows f c unanswered h = refl
+page-shows f c (refused x) h = refl
+page-shows f c (needs n) h = refl
+page-shows f c (printed rs done) h = records-read f rs h (drop (length (join rs)) (c .page))

@@ -1,0 +1,103 @@
+//! The text of comparison cases reads back to calls with the outcome it states.
+
+use enumerator::cases;
+use enumerator::operations::{check_pattern, fill_page, judge_record, read_image};
+use std::collections::BTreeMap;
+
+type Case = BTreeMap<String, String>;
+
+/// Reads a dump the way README.md describes it.
+fn items(text: &str, digits: usize) -> Vec<u16> {
+    let mut found = Vec::new();
+    for piece in text.split_whitespace() {
+        let item = |hex: &str| u16::from_str_radix(hex, 16).unwrap();
+        match piece.split_once('*') {
+            Some((hex, count)) => found.extend(vec![item(hex); count.parse().unwrap()]),
+            None => found.extend(piece.as_bytes().chunks(digits).map(|hex| item(std::str::from_utf8(hex).unwrap()))),
+        }
+    }
+    found
+}
+
+fn words(case: &Case, name: &str) -> Vec<u16> {
+    items(&case[name], 4)
+}
+
+fn bytes(case: &Case, name: &str) -> Vec<u8> {
+    items(&case[name], 2).into_iter().map(|byte| byte as u8).collect()
+}
+
+fn number(case: &Case, name: &str) -> u64 {
+    case[name].trim().parse().unwrap()
+}
+
+fn read(sort: &str, seed: u64, count: usize) -> Vec<Case> {
+    let mut text = String::new();
+    cases::text(sort, seed, count, &mut |more| text += more).unwrap();
+    let mut found: Vec<Case> = Vec::new();
+    for line in text.lines() {
+        let (name, rest) = line.split_once(' ').unwrap_or((line, ""));
+        if name == "case" {
+            assert_eq!(rest, found.len().to_string());
+            found.push(Case::new());
+            continue;
+        }
+        let before = found.last_mut().unwrap().insert(name.to_string(), rest.to_string());
+        assert_eq!(before, None);
+    }
+    assert_eq!(found.len(), count);
+    found
+}
+
+#[test]
+fn images() {
+    for case in read("images", 5, 150) {
+        let mut report = bytes(&case, "report");
+        assert_eq!(read_image(&bytes(&case, "image"), &mut report), number(&case, "result"));
+        assert_eq!(report, bytes(&case, "report-after"));
+    }
+}
+
+#[test]
+fn tables() {
+    for case in read("tables", 5, 300) {
+        let (mut types, mut report) = (words(&case, "types"), bytes(&case, "report"));
+        let result = check_pattern(&words(&case, "pattern"), &mut types, &mut report);
+        assert_eq!(result, number(&case, "result"));
+        assert_eq!(types, words(&case, "types-after"));
+        assert_eq!(report, bytes(&case, "report-after"));
+    }
+}
+
+#[test]
+fn records() {
+    for case in read("records", 5, 200) {
+        let (image, pattern) = (bytes(&case, "image"), words(&case, "pattern"));
+        let (mut work, mut report) = (words(&case, "work"), bytes(&case, "report"));
+        let (restrictor, record) = (number(&case, "restrictor"), words(&case, "record"));
+        let result = judge_record(&image, &pattern, restrictor, &record, &mut work, &mut report);
+        assert_eq!(result, number(&case, "result"));
+        assert_eq!(work, words(&case, "work-after"));
+        assert_eq!(report, bytes(&case, "report-after"));
+    }
+}
+
+#[test]
+fn pages() {
+    for case in read("pages", 5, 200) {
+        let (image, pattern) = (bytes(&case, "image"), words(&case, "pattern"));
+        let (mut page, mut work) = (words(&case, "page"), words(&case, "work"));
+        let mut report = bytes(&case, "report");
+        let (restrictor, bookmark) = (number(&case, "restrictor"), words(&case, "bookmark"));
+        let result = fill_page(&image, &pattern, restrictor, &bookmark, &mut page, &mut work, &mut report);
+        assert_eq!(result, number(&case, "result"));
+        assert_eq!(page, words(&case, "page-after"));
+        assert_eq!(work, words(&case, "work-after"));
+        assert_eq!(report, bytes(&case, "report-after"));
+    }
+}
+
+#[test]
+fn an_unknown_sort_has_no_cases() {
+    assert_eq!(cases::text("answers", 1, 1, &mut |_| panic!("nothing is written")), None);
+}
