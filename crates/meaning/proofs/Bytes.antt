@@ -17,7 +17,7 @@ use Rattle.meaning.specs.Basics.{All, Cause, firstOf, if_then_else_, kee
 use Rattle.meaning.specs.FullListing.{fixedFault, fullListing}
 use Rattle.meaning.specs.Listing.{Before, before}
 use Rattle.meaning.specs.Machine.{fillPage, hostCalls, hostRun, lastOr, pageRecords, plainMachine, shownRecords}
-use Rattle.meaning.specs.Page.{Left, Lent, Outcome, after, filled, fit, isEmpty, join, left, needs, outcome, printed, refused, unanswered, unlessFault}
+use Rattle.meaning.specs.Page.{Left, Lent, Outcome, after, filled, fit, join, left, needs, outcome, printed, printing, refused, unanswered, unlessFault}
 use Rattle.meaning.specs.Record.{Record, recordsIn}
 use Rattle.meaning.specs.Report.{bit, digits, reportBytes, reported, undigits, wideEnough}
 use Rattle.meaning.specs.Table.{patternOf}
@@ -70,7 +70,7 @@ outcome-words fault c rest = go (wideEnough (c .report))
     fills [] = omega arith
     fills (r ∷ l) = if-fits (leb (length r) (length (c .page)))
       where
-        if-fits : (b : Bool) → Few (length (c .page)) (if b then printed (fit (length (c .page)) (r ∷ l)) (isEmpty (drop (length (fit (length (c .page)) (r ∷ l))) (r ∷ l))) else needs (length r))
+        if-fits : (b : Bool) → Few (length (c .page)) (if b then printing (length (c .page)) (r ∷ l) else needs (length r))
         if-fits true = fit-words (length (c .page)) (r ∷ l)
         if-fits false = omega arith
 

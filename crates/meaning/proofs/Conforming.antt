@@ -9,12 +9,13 @@ use Prim.Native.Nat.{_+_, _≤_, suc, ℕ}
 use native.Mathlib.Omega.{arith}
 use lib.Dec.{eqb}
 use lib.ListN.{length}
-use Rattle.meaning.proofs.Assignments.{NonEmpty, has-an-edge}
+use Rattle.meaning.proofs.Assignments.{has-an-edge}
+use Rattle.meaning.proofs.Factors.{NonEmpty}
 use Rattle.meaning.proofs.InGraph.{goes-found}
 use Rattle.meaning.proofs.Logic.{all-both, all-map, either, or-false-l}
 use Rattle.meaning.proofs.Opened.{opened}
 use Rattle.meaning.proofs.Size.{len-append, nonEmpty-len}
-use Rattle.meaning.proofs.Types.{absent→unused, no-typed-absent, unused→absent}
+use Rattle.meaning.proofs.Unused.{absent→unused, no-typed-absent, unused→absent}
 use Rattle.meaning.specs.Assignment.{AllOf, Assignment, Conforms, Factor, Of, Value, bind, count, entries, group, nothing, one, pathOf, valueOf}
 use Rattle.meaning.specs.Basics.{All, if_then_else_, orElse}
 use Rattle.meaning.specs.Graph.{Graph, Valid, Walk, len, theEdge, theNode}

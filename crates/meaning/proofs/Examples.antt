@@ -29,11 +29,11 @@ pub record Example : Type 0 where
   pub leaves : List Left
 
 -- 16-bit numbers as bytes, low byte first
-abbrev low-first : List ℕ → List ℕ
+abbrev pub low-first : List ℕ → List ℕ
 low-first [] = []
 low-first (x ∷ l) = x % 256 ∷ x / 256 ∷ low-first l
 
-abbrev T : List ℕ
+abbrev pub T : List ℕ
 T = low-first (16 ∷ 6 ∷ 22 ∷ 18 ∷ 40 ∷ 0 ∷ 40 ∷ 0 ∷ 10 ∷ 20 ∷ 30 ∷ 0 ∷ 1 ∷ 1 ∷ 1 ∷ 2 ∷ 1 ∷ 0 ∷ 2 ∷ 0 ∷ [])
 
 abbrev no-nodes : List ℕ
@@ -45,7 +45,7 @@ one-loop = low-first (16 ∷ 2 ∷ 18 ∷ 6 ∷ 24 ∷ 0 ∷ 24 ∷ 0 ∷ 7 ∷ 
 abbrev one-node : List ℕ
 one-node = low-first (16 ∷ 2 ∷ 18 ∷ 0 ∷ 18 ∷ 0 ∷ 18 ∷ 0 ∷ 7 ∷ [])
 
-abbrev P : List ℕ
+abbrev pub P : List ℕ
 P = 2 ∷ 1 ∷ 0 ∷ 0 ∷ 0 ∷ 8 ∷ 0 ∷ 0 ∷ 1 ∷ 65535 ∷ []
 
 abbrev both-ways : List ℕ
@@ -102,10 +102,20 @@ examples =
     ∷ lists-only one-node (1 ∷ 1 ∷ 0 ∷ 0 ∷ 0 ∷ 16 ∷ 1 ∷ 7 ∷ 5 ∷ 0 ∷ 20 ∷ 1 ∷ 0 ∷ 0 ∷ 0 ∷ 7 ∷ 0 ∷ 2 ∷ 0 ∷ 0 ∷ []) 1 ((0 ∷ 0 ∷ 0 ∷ []) ∷ [])
     ∷ []
 
-abbrev listing-of : Example → Listing
+-- beside the table, for the rule of the shortest: T, forward or undirected, 1 to unbounded, restrictor 3. From 0 to 2 only by edge 2; from 0 to 0 in 3 edges
+abbrev forward-or-undirected : List ℕ
+forward-or-undirected = 2 ∷ 0 ∷ 0 ∷ 0 ∷ 0 ∷ 4 ∷ 0 ∷ 0 ∷ 0 ∷ 0 ∷ 5 ∷ 0 ∷ 1 ∷ 0 ∷ 0 ∷ 8 ∷ 2 ∷ 0 ∷ 1 ∷ 65535 ∷ []
+
+pub example-shortest : fullListing T forward-or-undirected 3 ≡
+    (1 ∷ 0 ∷ 0 ∷ 1 ∷ []) ∷ (1 ∷ 0 ∷ 2 ∷ 2 ∷ []) ∷ (1 ∷ 1 ∷ 1 ∷ 2 ∷ []) ∷ (1 ∷ 2 ∷ 2 ∷ 0 ∷ []) ∷ (2 ∷ 1 ∷ 1 ∷ 2 ∷ 2 ∷ 0 ∷ []) ∷ (2 ∷ 2 ∷ 2 ∷ 0 ∷ 0 ∷ 1 ∷ [])
+    ∷ (3 ∷ 0 ∷ 0 ∷ 1 ∷ 1 ∷ 2 ∷ 2 ∷ 0 ∷ []) ∷ (3 ∷ 1 ∷ 1 ∷ 2 ∷ 2 ∷ 0 ∷ 0 ∷ 1 ∷ []) ∷ (3 ∷ 2 ∷ 2 ∷ 0 ∷ 0 ∷ 1 ∷ 1 ∷ 2 ∷ []) ∷ []
+unfolding opened
+example-shortest = refl
+
+abbrev pub listing-of : Example → Listing
 listing-of x = elim (fixedFault (x .image) (x .words) (x .restrictor)) [ some c ↦ refuses (c .0) (c .1) | none ↦ lists (fullListing (x .image) (x .words) (x .restrictor)) ]
 
-abbrev computed : Example → Listing × List Left
+abbrev pub computed : Example → Listing × List Left
 computed x = (listing-of x, map (λ t. t .left) (plainMachine (x .image) (x .words) (x .restrictor) (x .calls)))
 
 -- the table, as one theorem

@@ -1,7 +1,12 @@
 pub mod Opened
 pub mod Logic
 pub mod Members
+pub mod Unused
+pub mod Derived
 pub mod Types
+pub mod Domain
+pub mod Unification
+pub mod Factors
 pub mod Assignments
 pub mod Order
 pub mod Sorting
@@ -15,9 +20,12 @@ pub mod Words
 pub mod Conforming
 pub mod Causes
 pub mod Rows
+pub mod Bodies
+pub mod Variables
 pub mod Accepted
 pub mod ImageRead
 pub mod Examples
+pub mod Rules
 pub mod Untyped
 pub mod Lists
 pub mod TypeWords

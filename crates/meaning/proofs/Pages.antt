@@ -11,7 +11,7 @@ use Rattle.meaning.proofs.Opened.{opened}
 use Rattle.meaning.proofs.Reading.{Readable, records-read}
 use Rattle.meaning.specs.Basics.{All, Cause, firstOf, if_then_else_, whole}
 use Rattle.meaning.specs.Machine.{isDone, pageRecords, printedCount}
-use Rattle.meaning.specs.Page.{Lent, Outcome, filled, fit, isEmpty, join, left, needs, outcome, printed, refused, unanswered, unlessFault}
+use Rattle.meaning.specs.Page.{Lent, Outcome, filled, fit, isEmpty, join, left, needs, outcome, printed, printing, refused, unanswered, unlessFault}
 use Rattle.meaning.specs.Record.{Record}
 use Rattle.meaning.specs.Report.{wideEnough}
 use Rattle.meaning.specs.Typing.{Found}
@@ -47,7 +47,7 @@ unfolding opened printedRecords
 filled-begins n [] = refl
 filled-begins n (r ∷ l) = go (leb (length r) n)
   where
-    go : (b : Bool) → Begins (if b then printed (fit n (r ∷ l)) (isEmpty (drop (length (fit n (r ∷ l))) (r ∷ l))) else needs (length r)) (r ∷ l)
+    go : (b : Bool) → Begins (if b then printing n (r ∷ l) else needs (length r)) (r ∷ l)
     go true = fit-prefix n (r ∷ l)
     go false = refl
 
@@ -81,7 +81,7 @@ unfolding opened printedRecords
 filled-done n [] = λ e. refl
 filled-done n (r ∷ l) = go (leb (length r) n)
   where
-    go : (b : Bool) → All-if-done (if b then printed (fit n (r ∷ l)) (isEmpty (drop (length (fit n (r ∷ l))) (r ∷ l))) else needs (length r)) (r ∷ l)
+    go : (b : Bool) → All-if-done (if b then printing n (r ∷ l) else needs (length r)) (r ∷ l)
     go true = λ e. empty-drop (fit n (r ∷ l)) (r ∷ l) (fit-prefix n (r ∷ l)) e
     go false = λ e. no-false e
 

@@ -13,7 +13,7 @@ use Rattle.meaning.proofs.Conforming.{conforms}
 use Rattle.meaning.proofs.Logic.{all-mem, and-l, and-r, no-true}
 use Rattle.meaning.proofs.Opened.{opened}
 use Rattle.meaning.proofs.Reading.{Readable, record-size-is}
-use Rattle.meaning.proofs.Types.{unused→absent}
+use Rattle.meaning.proofs.Unused.{unused→absent}
 use Rattle.meaning.proofs.Words.{record-part}
 use Rattle.meaning.specs.Assignment.{Assignment, Conforms}
 use Rattle.meaning.specs.Basics.{All, eight}

@@ -8,7 +8,8 @@ use native.Mathlib.Omega.{arith}
 use lib.Dec.{eqb, leb}
 use lib.ListN.{length, length-append}
 use borrow.Author.Tests.{leb-false, leb-true}
-use Rattle.meaning.proofs.Assignments.{NonEmpty, has-an-edge}
+use Rattle.meaning.proofs.Assignments.{has-an-edge}
+use Rattle.meaning.proofs.Factors.{NonEmpty}
 use Rattle.meaning.proofs.Logic.{all-map, either}
 use Rattle.meaning.proofs.Opened.{opened}
 use Rattle.meaning.specs.Assignment.{Assignment, Entries, Factor, Value, bind, entries, group, nothing, one, pathOf, valueOf}

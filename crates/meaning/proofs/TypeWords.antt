@@ -10,7 +10,8 @@ use borrow.Author.Tests.{leb-false, leb-true}
 use Rattle.meaning.proofs.Lists.{drop-past, take-front}
 use Rattle.meaning.proofs.Logic.{and-l, and-r}
 use Rattle.meaning.proofs.Opened.{opened}
-use Rattle.meaning.proofs.Types.{has-iff, unused→absent}
+use Rattle.meaning.proofs.Types.{has-iff}
+use Rattle.meaning.proofs.Unused.{unused→absent}
 use Rattle.meaning.specs.Basics.{each, if_then_else_, max, upFrom}
 use Rattle.meaning.specs.Pattern.{Pattern, inVar, nesting}
 use Rattle.meaning.specs.Table.{foundWords, isVariable, padded, tyWords, typeWords}

@@ -7,11 +7,13 @@ use mathlib.Core.Logic.{_↔_, _≢_}
 use Prim.Native.Nat.{_<_, ℕ}
 use native.Mathlib.Omega.{arith}
 use lib.ListN.{length}
-use Rattle.meaning.proofs.Accepted.{clear, typed-pattern, var-all}
+use Rattle.meaning.proofs.Accepted.{clear, typed-pattern}
 use Rattle.meaning.proofs.Causes.{lowest-found, lowest-some}
 use Rattle.meaning.proofs.Logic.{either, is-false, no-false, no-none, not-false, or-cases, some-inj}
 use Rattle.meaning.proofs.Opened.{opened}
+use Rattle.meaning.proofs.Rows.{item-is}
 use Rattle.meaning.proofs.Types.{wellTyped-iff}
+use Rattle.meaning.proofs.Variables.{var-all}
 use Rattle.meaning.specs.Basics.{Cause, atRow, eight, firstOf, lowest}
 use Rattle.meaning.specs.Pattern.{Pattern, inVar}
 use Rattle.meaning.specs.Table.{Item, Row, anyOf, asPattern, condition, fault12, fault13, fault14, fault15, fault16, fine, formAt, isClash, isVariable, itemAt, nil, onPattern, pattern, rowCause, tableFault, untyped}

@@ -1,14 +1,14 @@
 -- 01, 'Fill a page': what a call does, given the answers after its bookmark.
-use mathlib.Core.List.{List, [], _∷_, _++_}
-use mathlib.Core.Option.{Option, none, some}
-use mathlib.Core.Bool.{Bool, true, false}
-use Prim.Native.Nat.{ℕ, zero, suc, _-_}
-use lib.Dec.{ltb, leb}
-use lib.ListN.{length, drop}
-use Rattle.meaning.specs.Basics.{if_then_else_, keep, Cause, firstOf, whole}
-use Rattle.meaning.specs.Record.{Record}
+use mathlib.Core.List.{List, [], _++_, _∷_}
+use mathlib.Core.Option.{none, some}
+use mathlib.Core.Bool.{Bool, false, true}
+use Prim.Native.Nat.{_-_, ℕ}
+use lib.Dec.{leb, ltb}
+use lib.ListN.{drop, length}
+use Rattle.meaning.specs.Basics.{Cause, firstOf, if_then_else_, keep, whole}
 use Rattle.meaning.specs.Listing.{before}
-use Rattle.meaning.specs.Report.{over, reportBytes, wideEnough, causeBytes, bit, cleared}
+use Rattle.meaning.specs.Record.{Record}
+use Rattle.meaning.specs.Report.{bit, causeBytes, cleared, over, reportBytes, wideEnough}
 
 -- what one call is lent, but for what the listing keeps fixed and for the bookmark
 pub record Lent : Type 0 where
@@ -43,13 +43,14 @@ unfoldable pub isEmpty : List Record → Bool
 isEmpty [] = true
 isEmpty (r ∷ l) = false
 
--- rest: the answers after the bookmark; n: the page's length
+-- the records of rest that fit on a page of n words; done if no later one exists
+unfoldable pub printing : ℕ → List Record → Outcome
+printing n rest = printed (fit n rest) (isEmpty (drop (length (fit n rest)) rest))
+
+-- rest: the answers after the bookmark. 23 if the first is longer than the page
 unfoldable pub filled : ℕ → List Record → Outcome
 filled n [] = printed [] true
-filled n (r ∷ l) =
-    if leb (length r) n
-    then printed (fit n (r ∷ l)) (isEmpty (drop (length (fit n (r ∷ l))) (r ∷ l)))
-    else needs (length r)
+filled n (r ∷ l) = if leb (length r) n then printing n (r ∷ l) else needs (length r)
 
 -- fault: the first cause in what the listing keeps fixed
 unfoldable pub unlessFault : Cause → Outcome → Outcome

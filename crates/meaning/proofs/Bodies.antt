@@ -1,0 +1,87 @@
+-- 14 and 15: no row's pattern has an edgeless body, and none is more than two repetitions deep.
+use mathlib.Core.Path.{_∙_, _≡_, ap, sym}
+use mathlib.Core.List.{List}
+use mathlib.Core.Bool.{Bool, _&&_, false, true}
+use Prim.Native.Nat.{_<_, _≤_, ℕ}
+use native.Mathlib.Omega.{arith}
+use lib.Dec.{leb}
+use lib.ListN.{length}
+use borrow.Author.Tests.{leb-false}
+use Rattle.meaning.proofs.Logic.{and-l, and-r}
+use Rattle.meaning.proofs.Opened.{opened}
+use Rattle.meaning.proofs.Rows.{every-row, pattern-below}
+use Rattle.meaning.specs.Basics.{if_then_else_, max}
+use Rattle.meaning.specs.Pattern.{Sound, edgeless, nesting}
+use Rattle.meaning.specs.Table.{Form, Item, Row, asPattern, condition, conditionRow, fault14, fault15, fine, formAt, isAnd, isBad, isConcatenation, isConditioned, isConstant, isEdge, isNode, isNot, isOr, isProperty, isRepetition, isUnion, itemAt, make, nil, onPattern, pattern, patternRow, repeats, twoDeep}
+
+abbrev SoundI : Item → Type 0
+SoundI (pattern π) = Sound π
+SoundI (condition θ) = Unit {0}
+SoundI nil = Unit {0}
+
+sound-pattern : (x : Item) → SoundI x → Sound (asPattern x)
+unfolding opened
+sound-pattern (pattern π) h = h
+sound-pattern (condition θ) h = tt
+sound-pattern nil h = tt
+
+-- ---------------- 15: two deep
+abbrev DeepI : Item → Type 0
+DeepI (pattern π) = nesting π ≤ 2
+DeepI (condition θ) = Unit {0}
+DeepI nil = Unit {0}
+
+deep-pattern : (x : Item) → DeepI x → nesting (asPattern x) ≤ 2
+unfolding opened
+deep-pattern (pattern π) h = h
+deep-pattern (condition θ) h = omega arith
+deep-pattern nil h = omega arith
+
+max-bound : (a b d : ℕ) → a ≤ d → b ≤ d → max a b ≤ d
+unfolding opened
+max-bound a b d h k = go (leb a b)
+  where
+    go : (t : Bool) → (if t then b else a) ≤ d
+    go true = k
+    go false = h
+
+module _ (t : List Row) (ok : (i : ℕ) → i < length t → fine t i (formAt t i) ≡ true) where
+  module _ (bodies : (i : ℕ) → i < length t → fault14 t i ≡ false) where
+    sound-row : (i : ℕ) → i < length t → ((j : ℕ) → j < i → SoundI (itemAt t j)) → (f : Form) → fine t i f ≡ true → itemAt t i ≡ make (itemAt t) f → SoundI (make (itemAt t) f)
+    unfolding opened
+    sound-row i h ih (isNode x l) e q = tt
+    sound-row i h ih (isEdge d x l) e q = tt
+    sound-row i h ih (isUnion p r) e q = (sound-pattern (itemAt t p) (ih p (pattern-below t i p (and-l (patternRow t i p) (patternRow t i r) e))), sound-pattern (itemAt t r) (ih r (pattern-below t i r (and-r (patternRow t i p) (patternRow t i r) e))))
+    sound-row i h ih (isConcatenation p r) e q = (sound-pattern (itemAt t p) (ih p (pattern-below t i p (and-l (patternRow t i p) (patternRow t i r) e))), sound-pattern (itemAt t r) (ih r (pattern-below t i r (and-r (patternRow t i p) (patternRow t i r) e))))
+    sound-row i h ih (isConditioned p r) e q = sound-pattern (itemAt t p) (ih p (pattern-below t i p (and-l (patternRow t i p) (conditionRow t i r) e)))
+    sound-row i h ih (isRepetition p r s) e q = (sound-pattern (itemAt t p) (ih p (pattern-below t i p (and-l (patternRow t i p) (leb r 65534 && leb r s) e))), ap (onPattern (repeats edgeless)) (sym q) ∙ bodies i h)
+    sound-row i h ih (isConstant x k c) e q = tt
+    sound-row i h ih (isProperty x k y l) e q = tt
+    sound-row i h ih (isAnd p r) e q = tt
+    sound-row i h ih (isOr p r) e q = tt
+    sound-row i h ih (isNot p) e q = tt
+    sound-row i h ih isBad e q = tt
+
+    pub sound-all : (i : ℕ) → i < length t → Sound (asPattern (itemAt t i))
+    unfolding opened
+    sound-all i h = sound-pattern (itemAt t i) (every-row t SoundI ok sound-row i h)
+
+  module _ (flat : (i : ℕ) → i < length t → fault15 t i ≡ false) where
+    deep-row : (i : ℕ) → i < length t → ((j : ℕ) → j < i → DeepI (itemAt t j)) → (f : Form) → fine t i f ≡ true → itemAt t i ≡ make (itemAt t) f → DeepI (make (itemAt t) f)
+    unfolding opened
+    deep-row i h ih (isNode x l) e q = omega arith
+    deep-row i h ih (isEdge d x l) e q = omega arith
+    deep-row i h ih (isUnion p r) e q = max-bound (nesting (asPattern (itemAt t p))) (nesting (asPattern (itemAt t r))) 2 (deep-pattern (itemAt t p) (ih p (pattern-below t i p (and-l (patternRow t i p) (patternRow t i r) e)))) (deep-pattern (itemAt t r) (ih r (pattern-below t i r (and-r (patternRow t i p) (patternRow t i r) e))))
+    deep-row i h ih (isConcatenation p r) e q = max-bound (nesting (asPattern (itemAt t p))) (nesting (asPattern (itemAt t r))) 2 (deep-pattern (itemAt t p) (ih p (pattern-below t i p (and-l (patternRow t i p) (patternRow t i r) e)))) (deep-pattern (itemAt t r) (ih r (pattern-below t i r (and-r (patternRow t i p) (patternRow t i r) e))))
+    deep-row i h ih (isConditioned p r) e q = deep-pattern (itemAt t p) (ih p (pattern-below t i p (and-l (patternRow t i p) (conditionRow t i r) e)))
+    deep-row i h ih (isRepetition p r s) e q = let z : nesting (asPattern (itemAt t p)) < 2 = leb-false 2 (nesting (asPattern (itemAt t p))) (ap (onPattern (repeats twoDeep)) (sym q) ∙ flat i h) in omega arith
+    deep-row i h ih (isConstant x k c) e q = tt
+    deep-row i h ih (isProperty x k y l) e q = tt
+    deep-row i h ih (isAnd p r) e q = tt
+    deep-row i h ih (isOr p r) e q = tt
+    deep-row i h ih (isNot p) e q = tt
+    deep-row i h ih isBad e q = tt
+
+    pub deep-all : (i : ℕ) → i < length t → nesting (asPattern (itemAt t i)) ≤ 2
+    unfolding opened
+    deep-all i h = deep-pattern (itemAt t i) (every-row t DeepI ok deep-row i h)

@@ -1,0 +1,131 @@
+"""The definitions evaluated by the prover on the enumerator's random calls, every byte and word compared.
+
+    python3 tests/definitions/run.py [SEED [COUNT]]
+
+Each call becomes an equation between what a definition of crates/meaning computes and what the enumerator says the call leaves,
+closed by computation alone. One equation is made wrong on purpose: the run counts only if just that one is refused.
+"""
+
+import os
+import re
+import shutil
+import subprocess
+import sys
+import tempfile
+
+ROOT = os.path.dirname(os.path.dirname(os.path.dirname(os.path.abspath(__file__))))
+ENUMERATOR = os.path.join(ROOT, "tests/enumerator/target/release/enumerator")
+
+HEAD = """-- Random calls, decided by the enumerator.
+use mathlib.Core.Path.{_≡_, refl}
+use mathlib.Core.List.{List, [], _∷_, _++_}
+use Prim.Native.Nat.{ℕ}
+use lib.ListN.{replicate}
+use Rattle.meaning.proofs.Opened.{opened}
+use Rattle.meaning.specs.Operations.{readImage, checkPattern, judgeRecord, fillPageLeft}
+
+"""
+
+# What a definition takes, in order, and what it leaves; the prover is slow on large images and listings, which the later comparisons cover.
+CALLS = {
+    "images": ("readImage {image} {report}", ["report"]),
+    "tables": ("checkPattern {pattern} {types} {report}", ["types", "report"]),
+    "records": ("judgeRecord {image} {pattern} {restrictor} {record} {work} {report}", ["work", "report"]),
+    "pages": (
+        "fillPageLeft {image} {pattern} {restrictor} {bookmark} (record {{ page = {page}; work = {work}; report = {report} }})",
+        ["page", "work", "report"],
+    ),
+}
+MOST = {"image": 140, "pattern": 50, "page": 400, "record": 400, "bookmark": 400}
+
+
+def cases(sort, seed, count):
+    text = subprocess.run([ENUMERATOR, sort, str(seed), str(count)], capture_output=True, text=True, check=True).stdout
+    for block in re.split(r"(?m)^case \d+\n", text)[1:]:
+        yield dict(line.partition(" ")[::2] for line in block.splitlines())
+
+
+def items(name, text):
+    """The pieces of a dump, each a value and how often it stands there."""
+    width = 2 if name.startswith(("image", "report")) else 4
+    for piece in text.split():
+        if "*" in piece:
+            item, _, count = piece.partition("*")
+            yield int(item, 16), int(count)
+        else:
+            for at in range(0, len(piece), width):
+                yield int(piece[at : at + width], 16), 1
+
+
+def size(name, text):
+    return sum(count for _, count in items(name, text))
+
+
+def term(name, text):
+    """A list of numbers as the prover writes it."""
+    out = "[]"
+    for value, count in reversed(list(items(name, text))):
+        if count == 1:
+            out = f"{value} ∷ {out}"
+        else:
+            out = f"(replicate {count} {value} ++ ({out}))"
+    return f"({out})"
+
+
+def equation(sort, case):
+    call, left = CALLS[sort]
+    lent = {name: value if name == "restrictor" else term(name, value) for name, value in case.items() if name != "note" and not name.endswith("-after")}
+    fields = "; ".join(f"{name} = {term(name, case[name + '-after'])}" for name in left)
+    return f"{call.format(**lent)} ≡ record {{ result = {case['result']}; {fields} }}"
+
+
+def small(case):
+    return all(size(name, case[name]) <= most for name, most in MOST.items() if name in case)
+
+
+def module(seed, count):
+    names, text = [], HEAD
+    for sort in CALLS:
+        kept = [case for case in cases(sort, seed, 8 * count) if small(case)][:count]
+        for at, case in enumerate(kept):
+            name = f"{sort}-{at}"
+            names.append(name)
+            text += f"{name} : {equation(sort, case)}\nunfolding opened\n{name} = refl\n\n"
+    wrong = "readImage [] (replicate 64 0) ≡ record { result = 1; report = 2 ∷ replicate 63 0 }"
+    return names, text + f"wrong : {wrong}\nunfolding opened\nwrong = refl\n"
+
+
+def evaluate(text):
+    """The names of the equations that the prover refuses, and all that it wrote."""
+    with tempfile.TemporaryDirectory() as folder:
+        shutil.copytree(os.path.join(ROOT, "crates/meaning"), os.path.join(folder, "crates/meaning"), ignore=shutil.ignore_patterns("must-fail"))
+        with open(os.path.join(folder, "crates.txt"), "w") as crates:
+            crates.write("meaning:\n")
+        proofs = os.path.join(folder, "crates/meaning/proofs")
+        with open(os.path.join(proofs, "CallsTried.antt"), "w") as file:
+            file.write(text)
+        with open(os.path.join(proofs, "Lib.antt"), "a") as lib:
+            lib.write("pub mod CallsTried\n")
+        run = subprocess.run(["rt", "dev", "meaning"], cwd=folder, capture_output=True, text=True, env=dict(os.environ, RT_CUT="0"))
+        said = run.stdout + run.stderr
+        return set(re.findall(r"CallsTried\.antt:\d+:\d+: error: `([^`]+)`", said)), said
+
+
+def main():
+    seed = int(sys.argv[1]) if len(sys.argv) > 1 else 1
+    count = int(sys.argv[2]) if len(sys.argv) > 2 else 40
+    names, text = module(seed, count)
+    refused, said = evaluate(text)
+    others = [line for line in said.splitlines() if "error: " in line and "CallsTried.antt" not in line]
+    if "wrong" not in refused or others:
+        print("the calls were not evaluated:\n" + "\n".join(others or said.splitlines())[-3000:])
+        print(f"0 passed, {len(names)} failed")
+        return 1
+    bad = sorted(name for name in names if name in refused)
+    for name in bad:
+        print("differs:", name, re.search(rf"(?m)^{re.escape(name)} : .*$", text).group(0)[:2000])
+    print(f"{len(names) - len(bad)} passed, {len(bad)} failed")
+    return 1 if bad or not names else 0
+
+
+sys.exit(main())
