@@ -74,6 +74,8 @@ rules =
     ∷ refuses-case T (2 ∷ 0 ∷ 0 ∷ 0 ∷ 0 ∷ 0 ∷ []) 1 11 0
     -- restrictor 5
     ∷ refuses-case T (2 ∷ 0 ∷ 0 ∷ 0 ∷ 0 ∷ []) 5 21 0
+    -- restrictor 5 and six words
+    ∷ refuses-case T (2 ∷ 0 ∷ 0 ∷ 0 ∷ 0 ∷ 0 ∷ []) 5 11 0
     ∷ []
 
 pub rules-hold : map computed rules ≡ map (λ x. (x .listing-is, x .leaves)) rules
