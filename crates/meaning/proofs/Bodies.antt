@@ -14,24 +14,24 @@ use Rattle.meaning.specs.Basics.{if_then_else_, max}
 use Rattle.meaning.specs.Pattern.{Sound, edgeless, nesting}
 use Rattle.meaning.specs.Table.{Form, Item, Row, asPattern, condition, conditionRow, fault14, fault15, fine, formAt, isAnd, isBad, isConcatenation, isConditioned, isConstant, isEdge, isNode, isNot, isOr, isProperty, isRepetition, isUnion, itemAt, make, nil, onPattern, pattern, patternRow, repeats, twoDeep}
 
-abbrev SoundI : Item → Type 0
-SoundI (pattern π) = Sound π
-SoundI (condition θ) = Unit {0}
-SoundI nil = Unit {0}
+abbrev SoundItem : Item → Type 0
+SoundItem (pattern π) = Sound π
+SoundItem (condition θ) = Unit {0}
+SoundItem nil = Unit {0}
 
-sound-pattern : (x : Item) → SoundI x → Sound (asPattern x)
+sound-pattern : (x : Item) → SoundItem x → Sound (asPattern x)
 unfolding opened
 sound-pattern (pattern π) h = h
 sound-pattern (condition θ) h = tt
 sound-pattern nil h = tt
 
 -- ---------------- 15: two deep
-abbrev DeepI : Item → Type 0
-DeepI (pattern π) = nesting π ≤ 2
-DeepI (condition θ) = Unit {0}
-DeepI nil = Unit {0}
+abbrev ShallowItem : Item → Type 0
+ShallowItem (pattern π) = nesting π ≤ 2
+ShallowItem (condition θ) = Unit {0}
+ShallowItem nil = Unit {0}
 
-deep-pattern : (x : Item) → DeepI x → nesting (asPattern x) ≤ 2
+deep-pattern : (x : Item) → ShallowItem x → nesting (asPattern x) ≤ 2
 unfolding opened
 deep-pattern (pattern π) h = h
 deep-pattern (condition θ) h = omega arith
@@ -47,7 +47,7 @@ max-bound a b d h k = go (leb a b)
 
 module _ (t : List Row) (ok : (i : ℕ) → i < length t → fine t i (formAt t i) ≡ true) where
   module _ (bodies : (i : ℕ) → i < length t → fault14 t i ≡ false) where
-    sound-row : (i : ℕ) → i < length t → ((j : ℕ) → j < i → SoundI (itemAt t j)) → (f : Form) → fine t i f ≡ true → itemAt t i ≡ make (itemAt t) f → SoundI (make (itemAt t) f)
+    sound-row : (i : ℕ) → i < length t → ((j : ℕ) → j < i → SoundItem (itemAt t j)) → (f : Form) → fine t i f ≡ true → itemAt t i ≡ make (itemAt t) f → SoundItem (make (itemAt t) f)
     unfolding opened
     sound-row i h ih (isNode x l) e q = tt
     sound-row i h ih (isEdge d x l) e q = tt
@@ -64,10 +64,10 @@ module _ (t : List Row) (ok : (i : ℕ) → i < length t → fine t i (formAt t 
 
     pub sound-all : (i : ℕ) → i < length t → Sound (asPattern (itemAt t i))
     unfolding opened
-    sound-all i h = sound-pattern (itemAt t i) (every-row t SoundI ok sound-row i h)
+    sound-all i h = sound-pattern (itemAt t i) (every-row t SoundItem ok sound-row i h)
 
   module _ (flat : (i : ℕ) → i < length t → fault15 t i ≡ false) where
-    deep-row : (i : ℕ) → i < length t → ((j : ℕ) → j < i → DeepI (itemAt t j)) → (f : Form) → fine t i f ≡ true → itemAt t i ≡ make (itemAt t) f → DeepI (make (itemAt t) f)
+    deep-row : (i : ℕ) → i < length t → ((j : ℕ) → j < i → ShallowItem (itemAt t j)) → (f : Form) → fine t i f ≡ true → itemAt t i ≡ make (itemAt t) f → ShallowItem (make (itemAt t) f)
     unfolding opened
     deep-row i h ih (isNode x l) e q = omega arith
     deep-row i h ih (isEdge d x l) e q = omega arith
@@ -84,4 +84,4 @@ module _ (t : List Row) (ok : (i : ℕ) → i < length t → fine t i (formAt t 
 
     pub deep-all : (i : ℕ) → i < length t → nesting (asPattern (itemAt t i)) ≤ 2
     unfolding opened
-    deep-all i h = deep-pattern (itemAt t i) (every-row t DeepI ok deep-row i h)
+    deep-all i h = deep-pattern (itemAt t i) (every-row t ShallowItem ok deep-row i h)

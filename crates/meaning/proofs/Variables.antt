@@ -16,22 +16,22 @@ use Rattle.meaning.specs.Basics.{if_then_else_}
 use Rattle.meaning.specs.Pattern.{inCondition, inVar, named}
 use Rattle.meaning.specs.Table.{Form, Item, Row, asCondition, asPattern, condition, conditionRow, fine, formAt, isAnd, isBad, isConcatenation, isConditioned, isConstant, isEdge, isNode, isNot, isOr, isProperty, isRepetition, isUnion, isVariable, itemAt, make, nil, pattern, patternRow, unless}
 
-abbrev VarI : Item → Type 0
-VarI (pattern π) = (x : ℕ) → inVar π x ≡ true → isVariable x ≡ true
-VarI (condition θ) = (x : ℕ) → inCondition θ x ≡ true → isVariable x ≡ true
-VarI nil = Unit {0}
+abbrev VariablesItem : Item → Type 0
+VariablesItem (pattern π) = (x : ℕ) → inVar π x ≡ true → isVariable x ≡ true
+VariablesItem (condition θ) = (x : ℕ) → inCondition θ x ≡ true → isVariable x ≡ true
+VariablesItem nil = Unit {0}
 
 moved : (y x : ℕ) → isVariable y ≡ true → eqb y x ≡ true → isVariable x ≡ true
 unfolding opened
 moved y x h e = rw (eqb-true y x e) at h
 
-var-pattern : (i : Item) → VarI i → (x : ℕ) → inVar (asPattern i) x ≡ true → isVariable x ≡ true
+var-pattern : (i : Item) → VariablesItem i → (x : ℕ) → inVar (asPattern i) x ≡ true → isVariable x ≡ true
 unfolding opened
 var-pattern (pattern π) h = h
 var-pattern (condition θ) h = λ x e. no-false e
 var-pattern nil h = λ x e. no-false e
 
-var-condition : (i : Item) → VarI i → (x : ℕ) → inCondition (asCondition i) x ≡ true → isVariable x ≡ true
+var-condition : (i : Item) → VariablesItem i → (x : ℕ) → inCondition (asCondition i) x ≡ true → isVariable x ≡ true
 unfolding opened
 var-condition (pattern π) h = λ x e. moved 1 x refl e
 var-condition (condition θ) h = h
@@ -46,19 +46,19 @@ named-var y x h e = go (eqb y 0) refl e
     go false q e = let z : y ≢ 0 = eqb-false y 0 q in moved y x (ap₂ _&&_ (le-leb 1 y (omega arith)) h) e
 
 module _ (t : List Row) (ok : (i : ℕ) → i < length t → fine t i (formAt t i) ≡ true) where
-  two-patterns : (i p r : ℕ) → ((j : ℕ) → j < i → VarI (itemAt t j)) → (patternRow t i p && patternRow t i r) ≡ true → (x : ℕ) → (inVar (asPattern (itemAt t p)) x || inVar (asPattern (itemAt t r)) x) ≡ true → isVariable x ≡ true
+  two-patterns : (i p r : ℕ) → ((j : ℕ) → j < i → VariablesItem (itemAt t j)) → (patternRow t i p && patternRow t i r) ≡ true → (x : ℕ) → (inVar (asPattern (itemAt t p)) x || inVar (asPattern (itemAt t r)) x) ≡ true → isVariable x ≡ true
   unfolding opened
   two-patterns i p r ih e x u = either (or-cases (inVar (asPattern (itemAt t p)) x) (inVar (asPattern (itemAt t r)) x) u)
       (var-pattern (itemAt t p) (ih p (pattern-below t i p (and-l (patternRow t i p) (patternRow t i r) e))) x)
       (var-pattern (itemAt t r) (ih r (pattern-below t i r (and-r (patternRow t i p) (patternRow t i r) e))) x)
 
-  two-conditions : (i p r : ℕ) → ((j : ℕ) → j < i → VarI (itemAt t j)) → (conditionRow t i p && conditionRow t i r) ≡ true → (x : ℕ) → (inCondition (asCondition (itemAt t p)) x || inCondition (asCondition (itemAt t r)) x) ≡ true → isVariable x ≡ true
+  two-conditions : (i p r : ℕ) → ((j : ℕ) → j < i → VariablesItem (itemAt t j)) → (conditionRow t i p && conditionRow t i r) ≡ true → (x : ℕ) → (inCondition (asCondition (itemAt t p)) x || inCondition (asCondition (itemAt t r)) x) ≡ true → isVariable x ≡ true
   unfolding opened
   two-conditions i p r ih e x u = either (or-cases (inCondition (asCondition (itemAt t p)) x) (inCondition (asCondition (itemAt t r)) x) u)
       (var-condition (itemAt t p) (ih p (condition-below t i p (and-l (conditionRow t i p) (conditionRow t i r) e))) x)
       (var-condition (itemAt t r) (ih r (condition-below t i r (and-r (conditionRow t i p) (conditionRow t i r) e))) x)
 
-  var-row : (i : ℕ) → i < length t → ((j : ℕ) → j < i → VarI (itemAt t j)) → (f : Form) → fine t i f ≡ true → itemAt t i ≡ make (itemAt t) f → VarI (make (itemAt t) f)
+  var-row : (i : ℕ) → i < length t → ((j : ℕ) → j < i → VariablesItem (itemAt t j)) → (f : Form) → fine t i f ≡ true → itemAt t i ≡ make (itemAt t) f → VariablesItem (make (itemAt t) f)
   unfolding opened
   var-row i h ih (isNode y l) e q = λ x u. named-var y x e u
   var-row i h ih (isEdge d y l) e q = λ x u. named-var y x e u
@@ -77,4 +77,4 @@ module _ (t : List Row) (ok : (i : ℕ) → i < length t → fine t i (formAt t 
 
   pub var-all : (i : ℕ) → i < length t → (x : ℕ) → inVar (asPattern (itemAt t i)) x ≡ true → isVariable x ≡ true
   unfolding opened
-  var-all i h = var-pattern (itemAt t i) (every-row t VarI ok var-row i h)
+  var-all i h = var-pattern (itemAt t i) (every-row t VariablesItem ok var-row i h)
