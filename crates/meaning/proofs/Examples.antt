@@ -127,3 +127,8 @@ examples-hold = refl
 pub example-types : typeWords (patternOf P) ≡ 4 ∷ 2 ∷ replicate 46 0
 unfolding opened
 example-types = refl
+
+-- union of node variable 1 and forward edge variable 2: 1:3.1 2:3.2
+pub example-maybe : typeWords (patternOf (1 ∷ 1 ∷ 0 ∷ 0 ∷ 0 ∷ 2 ∷ 2 ∷ 0 ∷ 0 ∷ 0 ∷ 5 ∷ 0 ∷ 1 ∷ 0 ∷ 0 ∷ [])) ≡ 3 ∷ 1 ∷ 0 ∷ 0 ∷ 0 ∷ 0 ∷ 3 ∷ 2 ∷ replicate 40 0
+unfolding opened
+example-maybe = refl

@@ -1,6 +1,6 @@
 -- The 48 words tell each variable's type: six numbers are enough, none is lost, and a variable not used has six zeros.
 use mathlib.Core.Path.{_∙_, _≡_, ap, refl}
-use mathlib.Core.List.{List, [], _++_, _∷_}
+use mathlib.Core.List.{List, [], _++_, _∷_, head-eq-of-cons-eq, tail-eq-of-cons-eq}
 use mathlib.Core.Bool.{Bool, false, true}
 use Prim.Native.Nat.{_*_, _+_, _-_, _<_, _≤_, suc, zero, ℕ}
 use native.Mathlib.Omega.{arith}
@@ -135,3 +135,23 @@ length-typeWords π = blocks 8 1
     blocks : (n i : ℕ) → length (each (upFrom n i) (λ x. padded (foundWords (typeOf π x)))) ≡ 6 * n
     blocks zero i = refl
     blocks (suc n) i = length-append (padded (foundWords (typeOf π i))) (each (upFrom n (suc i)) (λ x. padded (foundWords (typeOf π x)))) ∙ omega (arith, length-padded (foundWords (typeOf π i)), blocks n (suc i))
+
+-- the numbers tell the type, whatever zeros follow
+pub words-tell : (τ σ : Ty) (m n : ℕ) → tyWords τ ++ replicate m 0 ≡ tyWords σ ++ replicate n 0 → τ ≡ σ
+unfolding opened
+words-tell Node Node m n e = refl
+words-tell Node Edge m n e = let z : _≡_ {A = ℕ} 1 2 = head-eq-of-cons-eq e in absurd (omega arith)
+words-tell Node (Maybe σ) m n e = let z : _≡_ {A = ℕ} 1 3 = head-eq-of-cons-eq e in absurd (omega arith)
+words-tell Node (Group σ) m n e = let z : _≡_ {A = ℕ} 1 4 = head-eq-of-cons-eq e in absurd (omega arith)
+words-tell Edge Node m n e = let z : _≡_ {A = ℕ} 2 1 = head-eq-of-cons-eq e in absurd (omega arith)
+words-tell Edge Edge m n e = refl
+words-tell Edge (Maybe σ) m n e = let z : _≡_ {A = ℕ} 2 3 = head-eq-of-cons-eq e in absurd (omega arith)
+words-tell Edge (Group σ) m n e = let z : _≡_ {A = ℕ} 2 4 = head-eq-of-cons-eq e in absurd (omega arith)
+words-tell (Maybe τ) Node m n e = let z : _≡_ {A = ℕ} 3 1 = head-eq-of-cons-eq e in absurd (omega arith)
+words-tell (Maybe τ) Edge m n e = let z : _≡_ {A = ℕ} 3 2 = head-eq-of-cons-eq e in absurd (omega arith)
+words-tell (Maybe τ) (Maybe σ) m n e = ap Maybe (words-tell τ σ m n (tail-eq-of-cons-eq e))
+words-tell (Maybe τ) (Group σ) m n e = let z : _≡_ {A = ℕ} 3 4 = head-eq-of-cons-eq e in absurd (omega arith)
+words-tell (Group τ) Node m n e = let z : _≡_ {A = ℕ} 4 1 = head-eq-of-cons-eq e in absurd (omega arith)
+words-tell (Group τ) Edge m n e = let z : _≡_ {A = ℕ} 4 2 = head-eq-of-cons-eq e in absurd (omega arith)
+words-tell (Group τ) (Maybe σ) m n e = let z : _≡_ {A = ℕ} 4 3 = head-eq-of-cons-eq e in absurd (omega arith)
+words-tell (Group τ) (Group σ) m n e = ap Group (words-tell τ σ m n (tail-eq-of-cons-eq e))
