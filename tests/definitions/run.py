@@ -121,11 +121,15 @@ def main():
         print("the calls were not evaluated:\n" + "\n".join(others or said.splitlines())[-3000:])
         print(f"0 passed, {len(names)} failed")
         return 1
-    bad = sorted(name for name in names if name in refused)
+    # A call too large for the prover's limit of steps says nothing; a handful may be so.
+    large = set(re.findall(r"CallsTried\.antt:\d+:\d+: error: `([^`]+)`: [^\n]*stopped at the step limit", said))
+    bad = sorted(name for name in names if name in refused - large)
     for name in bad:
         print("differs:", name, re.search(rf"(?m)^{re.escape(name)} : .*$", text).group(0)[:2000])
-    print(f"{len(names) - len(bad)} passed, {len(bad)} failed")
-    return 1 if bad or not names else 0
+    if large:
+        print(f"too large to evaluate, not counted: {len(large)} of {len(names)}")
+    print(f"{len(names) - len(bad) - len(large)} passed, {len(bad)} failed")
+    return 1 if bad or 10 * len(large) > len(names) or not names else 0
 
 
 sys.exit(main())
