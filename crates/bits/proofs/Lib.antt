@@ -1,0 +1,9 @@
+pub mod Cases
+pub mod Bits
+pub mod Words
+pub mod Made
+pub mod Search
+pub mod Shift
+pub mod Empty
+pub mod Masks
+pub mod Laws
