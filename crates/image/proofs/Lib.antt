@@ -1,0 +1,14 @@
+pub mod Tests
+pub mod Listing
+pub mod Order
+pub mod RowFaults
+pub mod Scanning
+pub mod Causes
+pub mod Sound
+pub mod Rising
+pub mod Narrowing
+pub mod Edges
+pub mod Elements
+pub mod OneRow
+pub mod Labelled
+pub mod Valued

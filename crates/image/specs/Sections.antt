@@ -1,0 +1,37 @@
+-- What the counts and offsets of the sections are, in the definitions' terms.
+use mathlib.Core.Path.{_≡_}
+use mathlib.Core.List.{List}
+use mathlib.Core.Bool.{Bool, not, _&&_}
+use mathlib.Core.Option.{none}
+use Prim.Native.Nat.{ℕ, _<_}
+use lib.Dec.{leb}
+use Rattle.meaning.specs.Image.{offset, nodeCount, edgeCount, labelCount, propertyCount, imageFault}
+use Rattle.image.specs.declared.sections.Sections.{Sections}
+
+-- a count and an offset, as 16 bits hold them
+pub record Laid (b : List ℕ) (s : Sections) : Type 0 where
+  pub nodes : s .nodes .count ≡ nodeCount b
+  pub edges : s .edges .count ≡ edgeCount b
+  pub labels : s .labels .count ≡ labelCount b
+  pub properties : s .properties .count ≡ propertyCount b
+  pub nodes-at : s .nodes .at ≡ offset b 0
+  pub edges-at : s .edges .at ≡ offset b 1
+  pub labels-at : s .labels .at ≡ offset b 2
+  pub properties-at : s .properties .at ≡ offset b 3
+  pub nodes-few : s .nodes .count < 65536
+  pub edges-few : s .edges .count < 65536
+  pub labels-few : s .labels .count < 65536
+  pub properties-few : s .properties .count < 65536
+  pub nodes-near : s .nodes .at < 65536
+  pub edges-near : s .edges .at < 65536
+  pub labels-near : s .labels .at < 65536
+  pub properties-near : s .properties .at < 65536
+
+-- more rows than a section may have
+abbrev pub crowded : Sections → Bool
+crowded s = not ((leb (s .nodes .count) 200 && leb (s .edges .count) 200) && (leb (s .labels .count) 800 && leb (s .properties .count) 2000))
+
+-- what a look-up asks of its caller, who has it from the reader
+pub record Checked (b : List ℕ) (s : Sections) : Type 0 where
+  pub laid : Laid b s
+  pub sound : imageFault b ≡ none

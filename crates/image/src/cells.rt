@@ -1,0 +1,41 @@
+// The numbers of a row.
+use crate::sections::Sections;
+ghost use mathlib.Core.Path.{_≡_};
+ghost use Prim.Native.Nat.{_<_};
+ghost use Rattle.meaning.specs.Image.{nodeCell, edgeCell, labelCell, propertyCell};
+ghost use Rattle.image.specs.Sections.{Laid};
+
+pub fn node_cell(bytes: &[u8], s: Sections, i: usize) -> u16
+    requires { ⌜ Laid (now bytes) s ⌝ }
+    requires { ⌜ i < 65536 ⌝ }
+    ensures { λ r. ⌜ r ≡ nodeCell (now (bytes .entry)) i ⌝ }
+{
+    words::number_at(bytes, s.nodes.at + 2 * i)
+}
+
+pub fn edge_cell(bytes: &[u8], s: Sections, i: usize, j: usize) -> u16
+    requires { ⌜ Laid (now bytes) s ⌝ }
+    requires { ⌜ i < 65536 ⌝ }
+    requires { ⌜ j < 3 ⌝ }
+    ensures { λ r. ⌜ r ≡ edgeCell (now (bytes .entry)) i j ⌝ }
+{
+    words::number_at(bytes, s.edges.at + (6 * i + 2 * j))
+}
+
+pub fn label_cell(bytes: &[u8], s: Sections, i: usize, j: usize) -> u16
+    requires { ⌜ Laid (now bytes) s ⌝ }
+    requires { ⌜ i < 65536 ⌝ }
+    requires { ⌜ j < 2 ⌝ }
+    ensures { λ r. ⌜ r ≡ labelCell (now (bytes .entry)) i j ⌝ }
+{
+    words::number_at(bytes, s.labels.at + (4 * i + 2 * j))
+}
+
+pub fn property_cell(bytes: &[u8], s: Sections, i: usize, j: usize) -> u16
+    requires { ⌜ Laid (now bytes) s ⌝ }
+    requires { ⌜ i < 65536 ⌝ }
+    requires { ⌜ j < 3 ⌝ }
+    ensures { λ r. ⌜ r ≡ propertyCell (now (bytes .entry)) i j ⌝ }
+{
+    words::number_at(bytes, s.properties.at + (6 * i + 2 * j))
+}

@@ -1,0 +1,26 @@
+// The graph image: read and checked, and the few look-ups by which everything else asks it.
+mod cells;
+mod directory;
+mod faults;
+mod ids;
+mod keyed;
+mod look;
+mod lowest;
+mod reader;
+mod sections;
+
+pub use ids::EdgeId;
+pub use ids::Element;
+pub use ids::NodeId;
+pub use look::Value;
+pub use look::first_end;
+pub use look::has_label;
+pub use look::is_directed;
+pub use look::is_labelled;
+pub use look::property;
+pub use look::second_end;
+pub use reader::Verdict;
+pub use reader::read;
+pub use sections::Rows;
+pub use sections::Sections;
+pub use sections::sections_of;

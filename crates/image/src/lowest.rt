@@ -1,0 +1,63 @@
+// The lowest faulty row of a section.
+use crate::faults::bad_edge;
+use crate::faults::bad_label;
+use crate::faults::bad_node;
+use crate::faults::bad_property;
+use crate::sections::Sections;
+ghost use mathlib.Core.Path.{_≡_};
+ghost use Prim.Native.Nat.{_<_};
+ghost use Rattle.meaning.specs.Basics.{lowest};
+ghost use Rattle.image.specs.Sections.{Laid};
+ghost use Rattle.image.specs.Faults.{rowsIn, rowCount, badRow, foundRow};
+
+pub enum Section {
+    Nodes,
+    Edges,
+    Labels,
+    Properties,
+}
+
+pub enum Row {
+    At(usize),
+    Nothing,
+}
+
+fn row_count(s: Sections, section: Section) -> usize
+    ensures { λ r. ⌜ r ≡ rowsIn s section ⌝ }
+{
+    match section {
+        Section::Nodes => s.nodes.count,
+        Section::Edges => s.edges.count,
+        Section::Labels => s.labels.count,
+        Section::Properties => s.properties.count,
+    }
+}
+
+fn bad_row(bytes: &[u8], s: Sections, section: Section, i: usize) -> bool
+    requires { ⌜ Laid (now bytes) s ⌝ }
+    requires { ⌜ i < 65536 ⌝ }
+    ensures { λ r. ⌜ r ≡ badRow section (now (bytes .entry)) i ⌝ }
+{
+    match section {
+        Section::Nodes => bad_node(bytes, s, i),
+        Section::Edges => bad_edge(bytes, s, i),
+        Section::Labels => bad_label(bytes, s, i),
+        Section::Properties => bad_property(bytes, s, i),
+    }
+}
+
+pub fn lowest_bad(bytes: &[u8], s: Sections, section: Section) -> Row
+    requires { ⌜ Laid (now bytes) s ⌝ }
+    ensures { λ r. ⌜ foundRow r ≡ lowest (rowCount section (now (bytes .entry))) 0 (badRow section (now (bytes .entry))) ⌝ }
+{
+    let count = row_count(s, section);
+    let mut next: usize = 0;
+    while next < count {
+        let row = next;
+        next += 1;
+        if bad_row(bytes, s, section, row) {
+            return Row::At(row);
+        }
+    }
+    Row::Nothing
+}

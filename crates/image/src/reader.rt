@@ -1,0 +1,94 @@
+// Reading an image: the first cause of a refusal.
+use crate::directory::good_directory;
+use crate::lowest::Row;
+use crate::lowest::Section;
+use crate::lowest::lowest_bad;
+use crate::sections::Sections;
+use crate::sections::sections_of;
+use crate::sections::too_many;
+ghost use mathlib.Core.Path.{_≡_};
+ghost use Rattle.meaning.specs.Image.{imageFault, rowFault};
+ghost use Rattle.image.specs.Sections.{Laid};
+ghost use Rattle.image.specs.Verdict.{causeOf};
+ghost use Rattle.words.specs.Fault.{numberOf, rowOf};
+
+// The last four name the faulty row of their section.
+pub enum Verdict {
+    Accepted,
+    TooShort,
+    BadDirectory,
+    TooManyRows,
+    BadNode(usize),
+    BadEdge(usize),
+    BadLabel(usize),
+    BadProperty(usize),
+}
+
+impl Verdict {
+    // The refusal's number, 0 where there is none.
+    pub fn number(self) -> u64
+        ensures { λ r. ⌜ r ≡ numberOf (causeOf self) ⌝ }
+    {
+        match self {
+            Verdict::Accepted => 0,
+            Verdict::TooShort => 1,
+            Verdict::BadDirectory => 2,
+            Verdict::TooManyRows => 3,
+            Verdict::BadNode(_) => 4,
+            Verdict::BadEdge(_) => 5,
+            Verdict::BadLabel(_) => 6,
+            Verdict::BadProperty(_) => 7,
+        }
+    }
+
+    // The faulty row, 0 where none is named.
+    pub fn row(self) -> u64
+        ensures { λ r. ⌜ r ≡ rowOf (causeOf self) ⌝ }
+    {
+        match self {
+            Verdict::Accepted => 0,
+            Verdict::TooShort => 0,
+            Verdict::BadDirectory => 0,
+            Verdict::TooManyRows => 0,
+            Verdict::BadNode(i) => i as u64,
+            Verdict::BadEdge(i) => i as u64,
+            Verdict::BadLabel(i) => i as u64,
+            Verdict::BadProperty(i) => i as u64,
+        }
+    }
+}
+
+fn read_rows(bytes: &[u8], s: Sections) -> Verdict
+    requires { ⌜ Laid (now bytes) s ⌝ }
+    ensures { λ r. ⌜ causeOf r ≡ rowFault (now (bytes .entry)) ⌝ }
+{
+    if let Row::At(i) = lowest_bad(bytes, s, Section::Nodes) {
+        return Verdict::BadNode(i);
+    }
+    if let Row::At(i) = lowest_bad(bytes, s, Section::Edges) {
+        return Verdict::BadEdge(i);
+    }
+    if let Row::At(i) = lowest_bad(bytes, s, Section::Labels) {
+        return Verdict::BadLabel(i);
+    }
+    if let Row::At(i) = lowest_bad(bytes, s, Section::Properties) {
+        return Verdict::BadProperty(i);
+    }
+    Verdict::Accepted
+}
+
+pub fn read(bytes: &[u8]) -> Verdict
+    ensures { λ r. ⌜ causeOf r ≡ imageFault (now (bytes .entry)) ⌝ }
+{
+    if bytes.len() < 16 {
+        return Verdict::TooShort;
+    }
+    if !good_directory(bytes) {
+        return Verdict::BadDirectory;
+    }
+    let s = sections_of(bytes);
+    if too_many(s) {
+        return Verdict::TooManyRows;
+    }
+    read_rows(bytes, s)
+}

@@ -1,0 +1,52 @@
+-- `words::lent::clear` meets its contract. Assumes nothing.
+use borrow.Author.Needs.{needs}
+use native.Mathlib.Omega.{arith}
+use Prim.Native.Nat.{_-_}
+use Rattle.words.proofs.Loops.{Filled, filled-none, filled-more, cleared-all}
+use Rattle.words.proofs.lent.clear.Statement.{statement}
+use Rattle.words.proofs.lent.clear.Tie as tie
+
+abbrev Inv-loop : tie.InvT-loop
+Inv-loop words₀ n i₀ words i = Filled 0 n words₀ words i
+
+abbrev μ-loop : tie.MeasureT-loop
+μ-loop words₀ n i₀ words i = n - i
+
+loop-holds : tie.Need-loop-holds Inv-loop μ-loop
+loop-holds c = search (filled-none, arith)
+
+mul-words : tie.Need-mul-words Inv-loop μ-loop
+mul-words c = search needs
+
+slice-write-words : tie.Need-slice-write-words Inv-loop μ-loop
+slice-write-words c = search needs
+
+add-i : tie.Need-add-i Inv-loop μ-loop
+add-i c = search needs
+
+loop-less : tie.Need-loop-less Inv-loop μ-loop
+loop-less c = search needs
+
+loop-again : tie.Need-loop-again Inv-loop μ-loop
+loop-again c = search (filled-more, arith)
+
+same-length : tie.Need-same-length Inv-loop μ-loop
+same-length c = search needs
+
+returns : tie.Need-returns Inv-loop μ-loop
+returns c = search (cleared-all, arith)
+
+pub clear-spec : {M : Type 1} → statement M
+clear-spec =
+    tie.close
+    (tie.spec
+    Inv-loop
+    μ-loop
+    loop-holds
+    mul-words
+    slice-write-words
+    add-i
+    loop-less
+    loop-again
+    same-length
+    returns)

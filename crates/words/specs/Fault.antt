@@ -1,0 +1,12 @@
+-- The two numbers that a report gives of a cause: 0 and 0 where nothing is refused.
+use mathlib.Core.Option.{none, some}
+use Prim.Native.Nat.{ℕ}
+use Rattle.meaning.specs.Basics.{Cause}
+
+abbrev pub numberOf : Cause → ℕ
+numberOf none = 0
+numberOf (some c) = c .0
+
+abbrev pub rowOf : Cause → ℕ
+rowOf none = 0
+rowOf (some c) = c .1
