@@ -45,6 +45,35 @@ extern "C" {
  */
 uint64_t gpc_read_image(const uint8_t *image, size_t image_bytes, uint8_t *report, size_t report_bytes);
 
+/* Refusal numbers of the checker. 17 is tried first, then 11 to 16 in their order, each over the whole table before the next. */
+#define GPC_PATTERN_LENGTH 11     /* not whole rows of five words, none, or over 64 */
+#define GPC_PATTERN_MALFORMED 12  /* a kind not listed, a number outside what its kind allows, a named row not lower or of the wrong sort */
+#define GPC_PATTERN_NAMING 13     /* a row but the last not named at just one place, or a last row that is a condition */
+#define GPC_PATTERN_EDGELESS 14   /* a repetition whose body can match without an edge */
+#define GPC_PATTERN_DEPTH 15      /* a third repetition around two */
+#define GPC_PATTERN_UNTYPED 16    /* a row to which the typing rules give no type */
+#define GPC_TYPES_TOO_SHORT 17    /* a type area of fewer than 48 words */
+
+#define GPC_TYPE_WORDS 48
+
+/* The numbers of a type, outermost first, padded with 0 to six words for each variable. */
+#define GPC_TYPE_NODE 1
+#define GPC_TYPE_EDGE 2
+#define GPC_TYPE_MAYBE 3
+#define GPC_TYPE_GROUP 4
+
+/* Checks a pattern table and tells the types of its variables.
+ *
+ * The table has five words a row: kind, p, q, r, s. It is not changed.
+ * Report: [0] is the number of the first cause that holds, 0 if none does. For 12 to 16, [1] is the lowest row with that fault,
+ * counted from 0; otherwise it is 0.
+ * Types: not refused, the first 48 words hold the types of variables 1 to 8, six words each, 0 for a variable that is not used.
+ * After 11 to 16 these 48 words are 0. After 17, and with a report area under 64 bytes, the area is as it was.
+ * Words past the first 48 keep what they held, always.
+ */
+uint64_t gpc_check_pattern(const uint16_t *pattern, size_t pattern_words, uint16_t *types, size_t types_words,
+                           uint8_t *report, size_t report_bytes);
+
 #ifdef __cplusplus
 }
 #endif

@@ -144,6 +144,9 @@ static size_t items(struct sample *s, const char *name) { return field(s, name)-
 static uint64_t call(const char *sort, struct sample *s, int null) {
     if (strcmp(sort, "images") == 0)
         return gpc_read_image(lent(s, "image", null), items(s, "image"), lent(s, "report", null), items(s, "report"));
+    if (strcmp(sort, "tables") == 0)
+        return gpc_check_pattern(lent(s, "pattern", null), items(s, "pattern"), lent(s, "types", null), items(s, "types"),
+                                 lent(s, "report", null), items(s, "report"));
     die("no such sort");
     return 0;
 }

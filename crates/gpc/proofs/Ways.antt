@@ -1,23 +1,71 @@
 -- What each way through an operation leaves.
-use mathlib.Core.Path.{_≡_}
+use mathlib.Core.Path.{_≡_, refl, sym, _∙_}
+use mathlib.Core.Bool.{Bool, true, false, not}
+use mathlib.Core.Option.{some}
 use mathlib.Core.List.{List}
 use Prim.Native.Nat.{ℕ, _<_, _≤_}
+use lib.Dec.{leb, ltb}
 use lib.ListN.{length}
-use borrow.Author.Tests.{le-leb, lt-leb}
-use Rattle.meaning.specs.Basics.{Cause}
+use native.Mathlib.Omega.{arith}
+use borrow.Author.Tests.{leb-true, leb-false, le-ltb, lt-ltb}
+use Rattle.meaning.proofs.Logic.{not-true, not-false}
+use Rattle.meaning.specs.Basics.{Cause, if_then_else_}
 use Rattle.meaning.specs.Image.{imageFault}
-use Rattle.meaning.specs.Report.{over, reportBytes, wideEnough}
-use Rattle.meaning.specs.Operations.{ReadLeft, readImage}
+use Rattle.meaning.specs.Report.{over, reportBytes, causeBytes, wideEnough}
+use Rattle.meaning.specs.Table.{patternFault}
+use Rattle.meaning.specs.Operations.{ReadLeft, readImage, CheckLeft, typesOrZeros, checkPattern}
 use Rattle.words.specs.Fault.{numberOf, rowOf}
 use Rattle.words.proofs.Refusals.{cause-reported}
+use Rattle.table.specs.declared.causes.Verdict.{Verdict}
+use Rattle.table.specs.Verdicts.{causeOf}
+use Rattle.table.specs.TypeArea.{TypesLeft}
+
+-- the test of a report area d, whose answer is s
+module _ (d : List ℕ) where
+  pub short-is : ltb (length d) 64 ≡ not (wideEnough d)
+  unfolding wideEnough
+  short-is = go (leb 64 (length d)) refl
+    where
+      go : (b : Bool) → leb 64 (length d) ≡ b → ltb (length d) 64 ≡ not b
+      go true e = le-ltb (length d) 64 (leb-true 64 (length d) e)
+      go false e = lt-ltb (length d) 64 (leb-false 64 (length d) e)
+
+  wide-is : (s : Bool) → s ≡ not (wideEnough d) → s ≡ false → wideEnough d ≡ true
+  wide-is s e f = not-false (wideEnough d) (sym e ∙ f)
+
+  narrow-is : (s : Bool) → s ≡ not (wideEnough d) → s ≡ true → wideEnough d ≡ false
+  narrow-is s e f = not-true (wideEnough d) (sym e ∙ f)
+
+  pub wide-enough : (s : Bool) → s ≡ not (wideEnough d) → s ≡ false → 64 ≤ length d
+  unfolding wideEnough
+  wide-enough s e f = leb-true 64 (length d) (wide-is s e f)
 
 -- b is the image, d the report's bytes
 module _ (b d : List ℕ) where
-  pub no-report : length d < 64 → _≡_ {A = ReadLeft} (record { result = 0; report = d }) (readImage b d)
-  unfolding readImage wideEnough
-  no-report h = rw (lt-leb 64 (length d) h)
+  pub no-report : (s : Bool) → s ≡ not (wideEnough d) → s ≡ true → _≡_ {A = ReadLeft} (record { result = 0; report = d }) (readImage b d)
+  unfolding readImage
+  no-report s e f = rw (narrow-is d s e f)
 
-  pub reported : 64 ≤ length d → (c : Cause) → c ≡ imageFault b → (n r : ℕ) → n ≡ numberOf c → r ≡ rowOf c → (d′ : List ℕ) → d′ ≡ over (reportBytes n r 0 0 0 0) d
+  pub reported : (s : Bool) → s ≡ not (wideEnough d) → s ≡ false → (c : Cause) → c ≡ imageFault b → (n r : ℕ) → n ≡ numberOf c → r ≡ rowOf c → (d′ : List ℕ) → d′ ≡ over (reportBytes n r 0 0 0 0) d
       → _≡_ {A = ReadLeft} (record { result = 1; report = d′ }) (readImage b d)
-  unfolding readImage wideEnough
-  reported h c e n r en er d′ w = rw (le-leb 64 (length d) h, ← e, ← cause-reported c, w, en, er)
+  unfolding readImage
+  reported s h f c e n r en er d′ w = rw (wide-is d s h f, ← e, ← cause-reported c, w, en, er)
+
+-- w is the pattern, t the type area, d the report's bytes
+module _ (w t d : List ℕ) where
+  pub no-check : (s : Bool) → s ≡ not (wideEnough d) → s ≡ true → _≡_ {A = CheckLeft} (record { result = 0; types = t; report = d }) (checkPattern w t d)
+  unfolding checkPattern
+  no-check s e f = rw (narrow-is d s e f)
+
+  -- what a call with a report area leaves, by whether the type area is too short
+  checked-by : (b : Bool) (c : Cause) (t′ : List ℕ) → c ≡ (if b then some (17, 0) else patternFault w) → t′ ≡ (if b then t else over (typesOrZeros (patternFault w) w) t)
+      → _≡_ {A = CheckLeft} (record { result = 1; types = t′; report = over (causeBytes c) d })
+      (if b then record { result = 1; types = t; report = over (causeBytes (some (17, 0))) d } else record { result = 1; types = over (typesOrZeros (patternFault w) w) t; report = over (causeBytes (patternFault w)) d })
+  checked-by true c t′ e f = rw (e, f) refl
+  checked-by false c t′ e f = rw (e, f) refl
+
+  pub checked : (s : Bool) → s ≡ not (wideEnough d) → s ≡ false → (v : Verdict) (t′ : List ℕ) → TypesLeft w t t′ v → (n r : ℕ) → n ≡ numberOf (causeOf v) → r ≡ rowOf (causeOf v) → (d′ : List ℕ) → d′ ≡ over (reportBytes n r 0 0 0 0) d
+      → _≡_ {A = CheckLeft} (record { result = 1; types = t′; report = d′ }) (checkPattern w t d)
+  unfolding checkPattern
+  checked s h f v t′ k n r en er d′ e =
+      rw (wide-is d s h f, e, en, er, cause-reported (causeOf v)) (checked-by (ltb (length t) 48) (causeOf v) t′ (k .verdict-is) (k .types-are))

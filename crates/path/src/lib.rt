@@ -1,0 +1,10 @@
+// A path by value, handed through the walk; beside it the nodes and edges that it has used, as masks.
+mod path;
+mod used;
+mod written;
+
+pub use path::Extended;
+pub use path::Path;
+pub use used::Used;
+pub use written::write_beginning;
+pub use written::write_path;

@@ -1,0 +1,48 @@
+-- The rows of a table's words: their number, and what stands in each.
+use mathlib.Core.Path.{_≡_, refl, sym, ap, _∙_}
+use mathlib.Core.List.{List, [], _∷_}
+use Prim.Native.Nat.{ℕ, zero, suc, _+_, _*_, _/_, _<_, _≤_}
+use native.Mathlib.Omega.{arith}
+use lib.ListN.{length, getD}
+use Rattle.meaning.specs.Table.{rowsOf, noRow}
+use Rattle.meaning.specs.Table.{Row as RowOf}
+use Rattle.rows.specs.Rows.{Reads}
+
+pub rows-length : (t : List ℕ) → length (rowsOf t) ≡ length t / 5
+unfolding rowsOf
+rows-length [] = refl
+rows-length (k ∷ []) = refl
+rows-length (k ∷ p ∷ []) = refl
+rows-length (k ∷ p ∷ q ∷ []) = refl
+rows-length (k ∷ p ∷ q ∷ r ∷ []) = refl
+rows-length (k ∷ p ∷ q ∷ r ∷ s ∷ l) = omega (arith, rows-length l)
+
+pub in-rows : (t : List ℕ) (i : ℕ) → i * 5 + 5 ≤ length t → i < length (rowsOf t)
+in-rows t i h = omega (arith, rows-length t)
+
+module _ (k p q r s : ℕ) (l : List ℕ) where
+  past : (n m : ℕ) → n ≡ suc (suc (suc (suc (suc m)))) → getD (k ∷ p ∷ q ∷ r ∷ s ∷ l) n 0 ≡ getD l m 0
+  past n m e = ap (λ (j : ℕ). getD (k ∷ p ∷ q ∷ r ∷ s ∷ l) j 0) e
+
+made : {k k' p p' q q' r r' s s' : ℕ} → k ≡ k' → p ≡ p' → q ≡ q' → r ≡ r' → s ≡ s' →
+    _≡_ {A = RowOf} (record { kind = k; p = p; q = q; r = r; s = s }) (record { kind = k'; p = p'; q = q'; r = r'; s = s' })
+made a b c d e = cc
+
+rows-at : (t : List ℕ) (i : ℕ) → i * 5 + 5 ≤ length t →
+    getD (rowsOf t) i noRow ≡ record { kind = getD t (i * 5) 0; p = getD t (i * 5 + 1) 0; q = getD t (i * 5 + 2) 0; r = getD t (i * 5 + 3) 0; s = getD t (i * 5 + 4) 0 }
+unfolding rowsOf
+rows-at [] i h = absurd (omega arith)
+rows-at (k ∷ []) i h = absurd (omega arith)
+rows-at (k ∷ p ∷ []) i h = absurd (omega arith)
+rows-at (k ∷ p ∷ q ∷ []) i h = absurd (omega arith)
+rows-at (k ∷ p ∷ q ∷ r ∷ []) i h = absurd (omega arith)
+rows-at (k ∷ p ∷ q ∷ r ∷ s ∷ l) zero h = refl
+rows-at (k ∷ p ∷ q ∷ r ∷ s ∷ l) (suc i) h =
+    let g = past k p q r s l in
+    rows-at l i (omega arith) ∙ made (sym (g (suc i * 5) (i * 5) (omega arith))) (sym (g (suc i * 5 + 1) (i * 5 + 1) (omega arith))) (sym (g (suc i * 5 + 2) (i * 5 + 2) (omega arith))) (sym (g (suc i * 5 + 3) (i * 5 + 3) (omega arith))) (sym (g (suc i * 5 + 4) (i * 5 + 4) (omega arith)))
+
+-- the way out of row_at
+pub reads : (t : List ℕ) (i k p q r s : ℕ) → i * 5 + 5 ≤ length t → k ≡ getD t (i * 5) 0 → p ≡ getD t (i * 5 + 1) 0 → q ≡ getD t (i * 5 + 2) 0 → r ≡ getD t (i * 5 + 3) 0 → s ≡ getD t (i * 5 + 4) 0 →
+    k < 65536 → p < 65536 → q < 65536 → r < 65536 → s < 65536 → Reads t i (record { kind = k; p = p; q = q; r = r; s = s })
+reads t i k p q r s h e₀ e₁ e₂ e₃ e₄ b₀ b₁ b₂ b₃ b₄ =
+    record { is = rows-at t i h ∙ made (sym e₀) (sym e₁) (sym e₂) (sym e₃) (sym e₄); kind-fits = b₀; p-fits = b₁; q-fits = b₂; r-fits = b₃; s-fits = b₄ }

@@ -1,0 +1,24 @@
+-- Naming places, counted.
+use mathlib.Core.Path.{_≡_}
+use mathlib.Core.List.{List, [], _∷_}
+use Prim.Native.Nat.{ℕ, _≤_}
+use Rattle.meaning.specs.Basics.{each}
+use Rattle.meaning.specs.Table.{rowsOf, form, formAt, namesOf, times}
+
+-- i stands at r places among the names
+pub record Once (i p r : ℕ) : Type 0 where
+  pub is : r ≡ times i (p ∷ [])
+  pub small : r ≤ 1
+
+pub record Twice (i p q r : ℕ) : Type 0 where
+  pub is : r ≡ times i (p ∷ q ∷ [])
+  pub small : r ≤ 2
+
+-- row j names row i at r places
+pub record Places (t : List ℕ) (j i r : ℕ) : Type 0 where
+  pub is : r ≡ times i (namesOf (formAt (rowsOf t) j))
+  pub small : r ≤ 2
+
+-- row i is named at r places in all
+pub record Named (t : List ℕ) (i r : ℕ) : Type 0 where
+  pub is : r ≡ times i (each (rowsOf t) (λ l. namesOf (form l)))

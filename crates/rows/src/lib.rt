@@ -1,0 +1,10 @@
+// The rows of a pattern table: their numbers, and the checks 12 and 13 of 01.
+mod naming;
+mod numbers;
+mod row;
+mod uses;
+
+pub use naming::loose;
+pub use numbers::malformed;
+pub use row::Row;
+pub use row::row_at;

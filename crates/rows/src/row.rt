@@ -1,0 +1,77 @@
+// A row of the table, and the sort of its kind.
+ghost use mathlib.Core.Path.{_≡_};
+ghost use Prim.Native.Nat.{_<_, _≤_, _+_, _*_};
+ghost use lib.ListN.{length};
+ghost use Rattle.rows.specs.Rows.{Reads, patternKind, conditionKind, sortOf};
+
+pub struct Row {
+    pub kind: usize,
+    pub p: usize,
+    pub q: usize,
+    pub r: usize,
+    pub s: usize,
+}
+
+fn wide(x: u16) -> usize
+    ensures { λ r. ⌜ (r ≡ x) × (r < 65536) ⌝ }
+{
+    x as usize
+}
+
+// The five numbers of row i.
+pub fn row_at(t: &[u16], i: usize) -> Row
+    requires { ⌜ i * 5 + 5 ≤ length (now t) ⌝ }
+    ensures { λ r. ⌜ Reads (now (t .entry)) i r ⌝ }
+{
+    let at = i * 5;
+    let kind = wide(t[at]);
+    let p = wide(t[at + 1]);
+    let q = wide(t[at + 2]);
+    let r = wide(t[at + 3]);
+    let s = wide(t[at + 4]);
+    Row {
+        kind: kind,
+        p: p,
+        q: q,
+        r: r,
+        s: s,
+    }
+}
+
+pub enum Sort {
+    Pattern,
+    Condition,
+    Unknown,
+}
+
+pub fn sort_of(kind: usize) -> Sort
+    ensures { λ r. ⌜ r ≡ sortOf kind ⌝ }
+{
+    match kind {
+        1..=8 => Sort::Pattern,
+        16..=20 => Sort::Condition,
+        _ => Sort::Unknown,
+    }
+}
+
+pub fn is_pattern(kind: usize) -> bool
+    ensures { λ r. ⌜ r ≡ patternKind kind ⌝ }
+{
+    let s = sort_of(kind);
+    match s {
+        Sort::Pattern => true,
+        Sort::Condition => false,
+        Sort::Unknown => false,
+    }
+}
+
+pub fn is_condition(kind: usize) -> bool
+    ensures { λ r. ⌜ r ≡ conditionKind kind ⌝ }
+{
+    let s = sort_of(kind);
+    match s {
+        Sort::Pattern => false,
+        Sort::Condition => true,
+        Sort::Unknown => false,
+    }
+}

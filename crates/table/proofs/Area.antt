@@ -1,0 +1,114 @@
+-- The loop that writes the types of the variables, the one that writes zeros, and the ways out of check_types.
+use mathlib.Core.Path.{_≡_, refl, sym, ap, ap₂, _∙_}
+use mathlib.Core.List.{List, [], _∷_, _++_, append-assoc, append-nil}
+use mathlib.Core.Option.{none, some}
+use mathlib.Core.Bool.{Bool}
+use Prim.Native.Nat.{ℕ, zero, suc, _+_, _-_, _*_, _/_, _<_, _≤_}
+use native.Mathlib.Omega.{arith}
+use native.Mathlib.Numerals.{add-one}
+use lib.ListN.{length, take, drop, set, replicate, length-append, length-drop, length-set}
+use lib.Seq.{take-at, drop-append-add, drop-drop}
+use borrow.Author.Fill.{fill-none, fill-more}
+use borrow.Author.Tests.{lt-ltb, le-ltb}
+use Rattle.meaning.specs.Basics.{if_then_else_, Cause, each, eight, upFrom}
+use Rattle.meaning.specs.Typing.{typeOf}
+use Rattle.meaning.specs.Table.{patternFault, patternOf, foundWords, padded, typeWords}
+use Rattle.meaning.specs.Report.{over, cleared}
+use Rattle.meaning.specs.Operations.{typesOrZeros}
+use Rattle.typecode.specs.Codes.{codeOf}
+use Rattle.table.specs.Typing.{plainAt, TypeIs}
+use Rattle.table.specs.Verdicts.{causeOf}
+use Rattle.table.specs.TypeArea.{octal, Checked, TypesLeft}
+use Rattle.table.specs.declared.causes.Verdict.{Verdict}
+use Rattle.table.specs.declared.causes.Verdict.the-variants.{Accepted, Refused}
+use Rattle.table.proofs.Digits.{found-octal, padded-long}
+use Rattle.table.proofs.AcceptedTable.{plain-root, type-no-clash}
+
+-- ------------------------------------------------------------------ the loop over the variables
+abbrev wordsOf : List ℕ → ℕ → List ℕ
+wordsOf t y = padded (foundWords (typeOf (patternOf t) y))
+
+abbrev upTo : List ℕ → ℕ → List ℕ
+upTo t x = each (upFrom x 1) (wordsOf t)
+
+pub each-append : (f : ℕ → List ℕ) (a b : List ℕ) → each (a ++ b) f ≡ each a f ++ each b f
+unfolding each
+each-append f [] b = refl
+each-append f (x ∷ a) b = rw (each-append f a b) (sym (append-assoc (f x) (each a f) (each b f)))
+
+pub up-end : (n i : ℕ) → upFrom (suc n) i ≡ upFrom n i ++ ((i + n) ∷ [])
+unfolding upFrom
+up-end zero i = let e : i + 0 ≡ i = omega arith in rw e
+up-end (suc n) i = let e : suc i + n ≡ i + suc n = omega arith in rw (up-end n (suc i), e)
+
+up-more : (t : List ℕ) (x : ℕ) → upTo t (x + 1) ≡ upTo t x ++ wordsOf t (x + 1)
+unfolding each
+up-more t x =
+    let e : 1 + x ≡ x + 1 = omega arith in
+    ap (λ (n : ℕ). each (upFrom n 1) (wordsOf t)) (add-one x) ∙ ap (λ (l : List ℕ). each l (wordsOf t)) (up-end x 1) ∙ each-append (wordsOf t) (upFrom x 1) ((1 + x) ∷ []) ∙ rw (e, append-nil (wordsOf t (x + 1)))
+
+up-long : (t : List ℕ) (x : ℕ) → length (upTo t x) ≡ 6 * x
+unfolding each upFrom
+up-long t zero = refl
+up-long t (suc x) = ap length (ap (upTo t) (sym (add-one x)) ∙ up-more t x) ∙ length-append (upTo t x) (wordsOf t (x + 1)) ∙ omega (arith, up-long t x, padded-long (foundWords (typeOf (patternOf t) (x + 1))))
+
+pub record Writing (t d₀ d : List ℕ) (x : ℕ) : Type 0 where
+  pub upto : x ≤ 8
+  pub room : 48 ≤ length d₀
+  pub same-long : length d ≡ length d₀
+  pub is : d ≡ upTo t x ++ drop (6 * x) d₀
+
+pub writing-none : (t d : List ℕ) → 48 ≤ length d → Writing t d d 0
+unfolding each upFrom
+writing-none t d h = record { upto = omega arith; room = h; same-long = refl; is = refl }
+
+pub writing-more : (t d₀ d d' : List ℕ) (x root code : ℕ) → Checked t → root ≡ length t / 5 - 1 → Writing t d₀ d x → x < 8 → TypeIs t root (x + 1) code → d' ≡ take (6 * x) d ++ octal 6 code ++ drop (6 * x + 6) d → Writing t d₀ d' (x + 1)
+writing-more t d₀ d d' x root code k r w l h q =
+    let n = up-long t x in
+    let front : take (6 * x) d ≡ upTo t x = ap (take (6 * x)) (w .is) ∙ take-at (upTo t x) (drop (6 * x) d₀) (6 * x) n in
+    let back : drop (6 * x + 6) d ≡ drop (6 * x + 6) d₀ = ap (drop (6 * x + 6)) (w .is) ∙ ap (λ (m : ℕ). drop (m + 6) (upTo t x ++ drop (6 * x) d₀)) (sym n) ∙ drop-append-add (upTo t x) (drop (6 * x) d₀) 6 ∙ drop-drop 6 (6 * x) d₀ in
+    let digits : octal 6 code ≡ wordsOf t (x + 1) = ap (octal 6) (h .is ∙ ap (λ (i : ℕ). codeOf (plainAt t i (x + 1))) r ∙ ap codeOf (plain-root t (k .no-fault) (x + 1))) ∙ found-octal (typeOf (patternOf t) (x + 1)) (type-no-clash t (k .no-fault) (x + 1)) in
+    let s : 6 * x + 6 ≡ 6 * (x + 1) = omega arith in
+    let z : d' ≡ upTo t (x + 1) ++ drop (6 * (x + 1)) d₀ = q ∙ (rw (front, digits, back) refl) ∙ ap₂ (λ (a : List ℕ) (m : ℕ). a ++ drop m d₀) (sym (up-more t x)) s in
+    record { upto = omega arith; room = w .room; same-long = ap length z ∙ length-append (upTo t (x + 1)) (drop (6 * (x + 1)) d₀) ∙ omega (arith, up-long t (x + 1), length-drop (6 * (x + 1)) d₀, w .room); is = z }
+
+pub writing-all : (t d₀ d : List ℕ) (x : ℕ) → Writing t d₀ d x → 8 ≤ x → d ≡ over (typeWords (patternOf t)) d₀
+unfolding over typeWords eight upFrom
+writing-all t d₀ d x w l =
+    let e : x ≡ 8 = omega (arith, w .upto) in
+    w .is ∙ ap (λ (n : ℕ). upTo t n ++ drop (6 * n) d₀) e ∙ ap (λ (m : ℕ). upTo t 8 ++ drop m d₀) (sym (up-long t 8))
+
+-- ------------------------------------------------------------------ clear
+pub record Filled (d₀ d : List ℕ) (i : ℕ) : Type 0 where
+  pub upto : i ≤ 48
+  pub room : 48 ≤ length d₀
+  pub same-long : length d ≡ length d₀
+  pub is : d ≡ replicate i 0 ++ drop i d₀
+
+pub filled-none : (d : List ℕ) → 48 ≤ length d → Filled d d 0
+filled-none d h = record { upto = omega arith; room = h; same-long = refl; is = fill-none d 0 }
+
+pub filled-more : (d₀ d : List ℕ) (i : ℕ) → Filled d₀ d i → i < 48 → Filled d₀ (set d i 0) (i + 1)
+filled-more d₀ d i f h = record { upto = omega arith; room = f .room; same-long = length-set d i 0 ∙ f .same-long; is = rw (f .is) (fill-more i 0 d₀ (omega (arith, f .room))) }
+
+pub filled-all : (d₀ d : List ℕ) (i : ℕ) → Filled d₀ d i → 48 ≤ i → d ≡ cleared 48 d₀
+unfolding cleared
+filled-all d₀ d i f h = let e : i ≡ 48 = omega (arith, f .upto) in f .is ∙ ap (λ (n : ℕ). replicate n 0 ++ drop n d₀) e
+
+-- ------------------------------------------------------------------ check_types
+module _ (t d : List ℕ) where
+  pub left-short : length d < 48 → TypesLeft t d d (Refused 17 0)
+  unfolding causeOf
+  left-short h = record { verdict-is = rw (lt-ltb (length d) 48 h); types-are = rw (lt-ltb (length d) 48 h) }
+
+  pub left-types : (a : List ℕ) (v : Verdict) → 48 ≤ length d → causeOf v ≡ patternFault t → v ≡ Accepted → a ≡ over (typeWords (patternOf t)) d → TypesLeft t d a v
+  unfolding causeOf typesOrZeros
+  left-types a v h q e w =
+      let z : patternFault t ≡ none = sym q ∙ ap causeOf e in
+      record { verdict-is = q ∙ sym (ap (λ (b : Bool). if b then some (17, 0) else patternFault t) (le-ltb (length d) 48 h)); types-are = w ∙ sym (ap₂ (λ (b : Bool) (c : Cause). if b then d else over (typesOrZeros c t) d) (le-ltb (length d) 48 h) z) }
+
+  pub left-zeros : (a : List ℕ) (v : Verdict) (n i : ℕ) → 48 ≤ length d → causeOf v ≡ patternFault t → v ≡ Refused n i → a ≡ cleared 48 d → TypesLeft t d a v
+  unfolding causeOf typesOrZeros over cleared
+  left-zeros a v n i h q e w =
+      let z : patternFault t ≡ some (n, i) = sym q ∙ ap causeOf e in
+      record { verdict-is = q ∙ sym (ap (λ (b : Bool). if b then some (17, 0) else patternFault t) (le-ltb (length d) 48 h)); types-are = w ∙ sym (ap₂ (λ (b : Bool) (c : Cause). if b then d else over (typesOrZeros c t) d) (le-ltb (length d) 48 h) z) }

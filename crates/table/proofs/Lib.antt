@@ -1,0 +1,9 @@
+pub mod Descent
+pub mod Bounds
+pub mod Plain
+pub mod TypedRows
+pub mod Trying
+pub mod Digits
+pub mod AcceptedTable
+pub mod Area
+pub mod Filling

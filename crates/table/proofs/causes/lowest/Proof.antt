@@ -1,0 +1,50 @@
+use Rattle.table.proofs.Trying.{Scanning, scan-none, scan-more, scan-hit, scan-end}
+use Rattle.table.specs.Ready.{faultBy}
+use Rattle.meaning.specs.Table.{rowsOf}
+use lib.ListN.{length}
+use Prim.Native.Nat.{_-_}
+use borrow.Author.Needs.{needs}
+use native.Mathlib.Omega.{arith}
+use Rattle.table.proofs.causes.lowest.Statement.{statement}
+use Rattle.table.proofs.causes.lowest.Tie as tie
+
+abbrev Inv-loop : tie.InvT-loop
+Inv-loop t number rows i₀ i = Scanning (faultBy number (rowsOf t)) (length (rowsOf t)) i
+
+abbrev μ-loop : tie.MeasureT-loop
+μ-loop t number rows i₀ i = rows - i
+
+loop-holds : tie.Need-loop-holds Inv-loop μ-loop
+loop-holds c = search (scan-none, arith)
+
+faulty-requires : tie.Need-faulty-requires Inv-loop μ-loop
+faulty-requires c κs = search needs
+
+returns : tie.Need-returns Inv-loop μ-loop
+returns c = search (scan-hit, arith)
+
+add-i : tie.Need-add-i Inv-loop μ-loop
+add-i c = search needs
+
+loop-less : tie.Need-loop-less Inv-loop μ-loop
+loop-less c = search needs
+
+loop-again : tie.Need-loop-again Inv-loop μ-loop
+loop-again c = search (scan-more, arith)
+
+returns-2 : tie.Need-returns-2 Inv-loop μ-loop
+returns-2 c = search (scan-end, arith)
+
+pub lowest-spec : {M : Type 1} → statement M
+lowest-spec =
+    tie.close
+    (tie.spec
+    Inv-loop
+    μ-loop
+    loop-holds
+    faulty-requires
+    returns
+    add-i
+    loop-less
+    loop-again
+    returns-2)

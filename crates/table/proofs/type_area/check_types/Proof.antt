@@ -1,0 +1,51 @@
+use Rattle.table.proofs.AcceptedTable.{checked-by}
+use Rattle.table.proofs.Area.{left-short, left-types, left-zeros}
+use native.Mathlib.Omega.{arith}
+use borrow.Author.Needs.{needs}
+use Rattle.table.proofs.type_area.check_types.Statement.{statement}
+use Rattle.table.proofs.type_area.check_types.Tie as tie
+
+returns : tie.Need-returns
+returns c = search (left-short, arith)
+
+check-requires : tie.Need-check-requires
+check-requires c κs = search needs
+
+enum-told : tie.Need-enum-told
+enum-told c = search needs
+
+write-types-requires : tie.Need-write-types-requires
+write-types-requires c κs = search (checked-by, arith)
+
+enum-told-2 : tie.Need-enum-told-2
+enum-told-2 c = search needs
+
+clear-requires : tie.Need-clear-requires
+clear-requires c κs = search needs
+
+same-length : tie.Need-same-length
+same-length c = search needs
+
+returns-2 : tie.Need-returns-2
+returns-2 c = search (left-types, arith)
+
+same-length-2 : tie.Need-same-length-2
+same-length-2 c = search needs
+
+returns-3 : tie.Need-returns-3
+returns-3 c = search (left-zeros, arith)
+
+pub check-types-spec : {M : Type 1} → statement M
+check-types-spec =
+    tie.close
+    (tie.spec
+    returns
+    check-requires
+    enum-told
+    write-types-requires
+    enum-told-2
+    clear-requires
+    same-length
+    returns-2
+    same-length-2
+    returns-3)

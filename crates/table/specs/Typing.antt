@@ -1,0 +1,32 @@
+-- Typing that leaves conditions aside, and what the functions on rows answer by it.
+use mathlib.Core.Path.{_≡_}
+use mathlib.Core.List.{List}
+use mathlib.Core.Bool.{Bool, true}
+use Prim.Native.Nat.{ℕ, _<_}
+use Rattle.meaning.specs.Basics.{eight}
+use Rattle.meaning.specs.Pattern.{Pattern, node, edge, union, concatenation, conditioned, repetition, named}
+use Rattle.meaning.specs.Typing.{Found, Node, Edge, fits, unionTy, concatenationTy, repetitionTy, namedTy}
+use Rattle.meaning.specs.Table.{rowsOf, formAt, itemAt, asPattern, asCondition, conditionForm, anyOf, isClash}
+use Rattle.typecode.specs.Codes.{codeOf}
+
+-- the type of x where every condition fits
+unfoldable pub plainOf : Pattern → ℕ → Found
+plainOf (node y l) x = namedTy Node (named y x)
+plainOf (edge d y l) x = namedTy Edge (named y x)
+plainOf (union a b) x = unionTy (plainOf a x) (plainOf b x)
+plainOf (concatenation a b) x = concatenationTy (plainOf a x) (plainOf b x)
+plainOf (conditioned a θ) x = plainOf a x
+plainOf (repetition a n m) x = repetitionTy (plainOf a x)
+
+abbrev pub plainAt : List ℕ → ℕ → ℕ → Found
+plainAt t row x = plainOf (asPattern (itemAt (rowsOf t) row)) x
+
+pub record TypeIs (t : List ℕ) (row x r : ℕ) : Type 0 where
+  pub is : r ≡ codeOf (plainAt t row x)
+  pub small : r < 262144
+
+pub record FitsAt (t : List ℕ) (part row : ℕ) (r : Bool) : Type 0 where
+  pub is : conditionForm (formAt (rowsOf t) row) ≡ true → r ≡ fits (plainAt t part) (asCondition (itemAt (rowsOf t) row))
+
+pub record Clashes (t : List ℕ) (row : ℕ) (r : Bool) : Type 0 where
+  pub is : r ≡ anyOf eight (λ x. isClash (plainAt t row x))

@@ -1,0 +1,82 @@
+// 14: a repetition over a body that can match without an edge. 15: a third repetition around two.
+use rows::row_at;
+ghost use mathlib.Core.Path.{_≡_};
+ghost use Prim.Native.Nat.{_<_, _+_};
+ghost use Rattle.meaning.specs.Table.{rowsOf, fault14, fault15};
+ghost use Rattle.rows.specs.Faults.{Stands};
+ghost use Rattle.meaning.specs.Basics.{max};
+ghost use Rattle.table.specs.Repetition.{Edgeless, Depth};
+
+// Whether a pattern row can match without an edge.
+pub fn edgeless(t: &[u16], row: usize) -> bool
+    requires { ⌜ Stands (now t) row ⌝ }
+    ensures { λ r. ⌜ Edgeless (now (t .entry)) row r ⌝ }
+{
+    let r = row_at(t, row);
+    let kind = r.kind;
+    match kind {
+        2..=4 => false,
+        5 => {
+            if edgeless(t, r.p) {
+                return true;
+            }
+            edgeless(t, r.q)
+        }
+        6 => {
+            if edgeless(t, r.p) {
+                return edgeless(t, r.q);
+            }
+            false
+        }
+        7 => edgeless(t, r.p),
+        8 => r.r == 0,
+        _ => true,
+    }
+}
+
+pub fn repeats_edgeless(t: &[u16], i: usize) -> bool
+    requires { ⌜ Stands (now t) i ⌝ }
+    ensures { λ r. ⌜ r ≡ fault14 (rowsOf (now (t .entry))) i ⌝ }
+{
+    let r = row_at(t, i);
+    if r.kind == 8 {
+        return edgeless(t, r.p);
+    }
+    false
+}
+
+fn greater(a: usize, b: usize) -> usize
+    ensures { λ r. ⌜ r ≡ max a b ⌝ }
+{
+    if a <= b { b } else { a }
+}
+
+// How many repetitions stand one in another, from a pattern row down.
+pub fn depth(t: &[u16], row: usize) -> usize
+    requires { ⌜ Stands (now t) row ⌝ }
+    ensures { λ r. ⌜ Depth (now (t .entry)) row r ⌝ }
+{
+    let r = row_at(t, row);
+    let kind = r.kind;
+    match kind {
+        5..=6 => {
+            let a = depth(t, r.p);
+            let b = depth(t, r.q);
+            greater(a, b)
+        }
+        7 => depth(t, r.p),
+        8 => 1 + depth(t, r.p),
+        _ => 0,
+    }
+}
+
+pub fn too_deep(t: &[u16], i: usize) -> bool
+    requires { ⌜ Stands (now t) i ⌝ }
+    ensures { λ r. ⌜ r ≡ fault15 (rowsOf (now (t .entry))) i ⌝ }
+{
+    let r = row_at(t, i);
+    if r.kind == 8 {
+        return 2 <= depth(t, r.p);
+    }
+    false
+}

@@ -1,0 +1,95 @@
+// Types after Figure 2, down the table, and 16: a row with no type.
+use rows::row_at;
+use typecode::CLASH;
+use typecode::EDGE;
+use typecode::NODE;
+use typecode::is_single;
+use typecode::joined_type;
+use typecode::named_type;
+use typecode::repeated_type;
+use typecode::union_type;
+ghost use Prim.Native.Nat.{_<_, _+_};
+ghost use Rattle.meaning.specs.Table.{rowsOf, fault16};
+ghost use Rattle.rows.specs.Faults.{Stands, Tells};
+ghost use Rattle.table.specs.Ready.{Typable};
+ghost use Rattle.table.specs.Typing.{TypeIs, FitsAt, Clashes};
+
+// The type of x in a pattern row whose conditions all fit, as a number.
+pub fn type_of(t: &[u16], row: usize, x: usize) -> u64
+    requires { ⌜ Typable (now t) row ⌝ }
+    ensures { λ r. ⌜ TypeIs (now (t .entry)) row x r ⌝ }
+{
+    let r = row_at(t, row);
+    let kind = r.kind;
+    match kind {
+        1 => named_type(r.p, x, NODE),
+        2..=4 => named_type(r.p, x, EDGE),
+        5 => {
+            let a = type_of(t, r.p, x);
+            let b = type_of(t, r.q, x);
+            union_type(a, b)
+        }
+        6 => {
+            let a = type_of(t, r.p, x);
+            let b = type_of(t, r.q, x);
+            joined_type(a, b)
+        }
+        7 => type_of(t, r.p, x),
+        8 => repeated_type(type_of(t, r.p, x)),
+        _ => 0,
+    }
+}
+
+// Whether a condition row names only variables that the pattern row `part` types Node or Edge.
+fn fits(t: &[u16], part: usize, row: usize) -> bool
+    requires { ⌜ Typable (now t) part × Stands (now t) row ⌝ }
+    ensures { λ r. ⌜ FitsAt (now (t .entry)) part row r ⌝ }
+{
+    let r = row_at(t, row);
+    let kind = r.kind;
+    match kind {
+        16 => is_single(type_of(t, part, r.p)),
+        17 => {
+            if is_single(type_of(t, part, r.p)) {
+                return is_single(type_of(t, part, r.r));
+            }
+            false
+        }
+        18..=19 => {
+            if fits(t, part, r.p) {
+                return fits(t, part, r.q);
+            }
+            false
+        }
+        20 => fits(t, part, r.p),
+        _ => false,
+    }
+}
+
+fn clashes(t: &[u16], row: usize) -> bool
+    requires { ⌜ Typable (now t) row ⌝ }
+    ensures { λ r. ⌜ Clashes (now (t .entry)) row r ⌝ }
+{
+    let mut x: usize = 1;
+    while x < 9 {
+        if type_of(t, row, x) == CLASH {
+            return true;
+        }
+        x += 1;
+    }
+    false
+}
+
+pub fn untyped(t: &[u16], i: usize) -> bool
+    requires { ⌜ Typable (now t) i ⌝ }
+    ensures { λ r. ⌜ Tells (fault16 (rowsOf (now (t .entry)))) i r ⌝ }
+{
+    let r = row_at(t, i);
+    if clashes(t, i) {
+        return true;
+    }
+    if r.kind == 7 {
+        return !fits(t, r.p, r.q);
+    }
+    false
+}
