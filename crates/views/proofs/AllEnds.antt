@@ -1,0 +1,22 @@
+-- The ends of the values of all variables. Assumes nothing.
+use mathlib.Core.Path.{_∙_, _≡_, ap, sym}
+use mathlib.Core.List.{List}
+use Prim.Native.Nat.{_≤_, ℕ}
+use native.Mathlib.Omega.{arith}
+use lib.ListN.{getD}
+use Rattle.matcher.specs.Values.{afterView, optionBind}
+use Rattle.views.proofs.Firsts.{view-in, view-out}
+use Rattle.views.proofs.Moves.{Made, views-are}
+use Rattle.views.specs.Ends.{EndsAll, EndsAt, EndsOne}
+use Rattle.views.specs.Places.{viewsOf}
+
+pub end-of : (ks types at : List ℕ) (x t place r : ℕ) → t ≡ getD types x 0 → place ≡ getD at x 0 → EndsAt ks t place r → EndsOne ks types at x r
+end-of ks types at x t place r e q h = record { end = rw (sym e, sym q) h }
+
+pub ends-all : (ks types at to : List ℕ) (x : ℕ) → Made (EndsOne ks types at) to x → 9 ≤ x → EndsAll ks types at to
+unfolding afterView optionBind
+ends-all ks types at to x h l = record {
+  is = λ f ty mask vars. views-are ks to mask (λ y. afterView (f y) (viewsOf ks at mask y)) vars
+      (λ y a b e. h .is y a (omega (arith, h .high)) .end .is (f y) (ty y a b) ∙ ap (afterView (f y)) (sym (view-in ks at mask y e)))
+      (λ y e. ap (afterView (f y)) (sym (view-out ks at mask y e)));
+}

@@ -1,0 +1,14 @@
+pub mod Variables
+pub mod Firsts
+pub mod Leads
+pub mod Moves
+pub mod Ends
+pub mod Groups
+pub mod AllEnds
+pub mod Paths
+pub mod FactorWords
+pub mod Cited
+pub mod SlotPlaces
+pub mod Others
+pub mod Counts
+pub mod NextWords

@@ -1,0 +1,6 @@
+pub mod Codes
+pub mod Places
+pub mod Ends
+pub mod Factors
+pub mod Slots
+pub mod Parts
