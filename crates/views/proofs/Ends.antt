@@ -14,7 +14,7 @@ use Rattle.matcher.proofs.Opened.{matcher-opened}
 use Rattle.matcher.proofs.Places.{view-far, viewAt}
 use Rattle.meaning.specs.Basics.{if_then_else_}
 use Rattle.meaning.specs.Typing.{Edge, Found, Group, Maybe, Node, Ty, absent, clash, typed}
-use Rattle.views.specs.Codes.{codeOf, tyCode}
+use Rattle.typecode.specs.Codes.{codeOf, tyCode}
 use Rattle.views.specs.Ends.{EndsAt, EndsGroup}
 
 -- a known place: its word, and the rest

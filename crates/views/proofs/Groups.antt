@@ -10,7 +10,7 @@ use Rattle.matcher.proofs.Opened.{matcher-opened}
 use Rattle.matcher.proofs.Places.{view-skip, viewAt}
 use Rattle.meaning.specs.Typing.{Ty, typed}
 use Rattle.views.proofs.Ends.{at, nowhere, size-is, view-past}
-use Rattle.views.specs.Codes.{codeOf, tyCode}
+use Rattle.typecode.specs.Codes.{codeOf, tyCode}
 use Rattle.views.specs.Ends.{EndsAt, EndsGroup}
 
 -- what comes after `count` factors from `from` on comes after `left` from `place` on

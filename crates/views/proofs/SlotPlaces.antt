@@ -14,7 +14,7 @@ use Rattle.matcher.specs.Values.{afterFound, afterView}
 use Rattle.matcher.proofs.Places.{view-far, viewAt}
 use Rattle.meaning.specs.Basics.{eight, if_then_else_}
 use Rattle.meaning.specs.Typing.{Found, absent, clash, typed}
-use Rattle.views.specs.Codes.{codeOf}
+use Rattle.typecode.specs.Codes.{codeOf}
 use Rattle.views.specs.Ends.{EndsAt, TypesAre}
 use Rattle.views.specs.Places.{Unplaced}
 use Rattle.views.specs.Slots.{Slot, SlotEnd, Slotted}

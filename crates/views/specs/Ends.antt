@@ -6,7 +6,7 @@ use lib.ListN.{getD}
 use Rattle.matcher.specs.Values.{afterEntry, afterValue, afterView, iterate, optionBind}
 use Rattle.matcher.proofs.Places.{viewAt}
 use Rattle.meaning.specs.Typing.{Found, Ty}
-use Rattle.views.specs.Codes.{codeOf, tyCode}
+use Rattle.typecode.specs.Codes.{codeOf, tyCode}
 use Rattle.views.specs.Places.{Variables, viewsOf}
 
 -- r is the place after the value of type t at place k; where there is no type, no place

@@ -1,4 +1,3 @@
-pub mod Codes
 pub mod Places
 pub mod Ends
 pub mod Factors

@@ -9,7 +9,7 @@ use Rattle.matcher.specs.Records.{afterSlot, afterSlots, slotView, views}
 use Rattle.matcher.proofs.Places.{viewAt}
 use Rattle.meaning.specs.Basics.{eight}
 use Rattle.meaning.specs.Typing.{Found, absent}
-use Rattle.views.specs.Codes.{codeOf}
+use Rattle.typecode.specs.Codes.{codeOf}
 use Rattle.views.specs.Ends.{TypesAre}
 use Rattle.views.specs.Places.{Variables, viewsOf}
 

@@ -1,0 +1,5 @@
+pub mod Truth
+pub mod Bound
+pub mod Property
+pub mod Evaluates
+pub mod Known

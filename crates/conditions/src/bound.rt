@@ -1,0 +1,47 @@
+// The elements that the variables are bound to, as far as they are known.
+use image::Element;
+ghost use mathlib.Core.Path.{_≡_};
+ghost use Prim.Native.Nat.{_<_};
+ghost use Rattle.conditions.specs.Bound.{bindingOf, boundOf, Unbound, Rebound};
+
+pub enum Binding {
+    Unknown,
+    To(Element),
+}
+
+pub struct Slot {
+    pub binding: Binding,
+}
+
+// Slot 0 is no variable's.
+pub struct Bound {
+    pub slots: [Slot; 9],
+}
+
+impl Bound {
+    pub fn unknown() -> Self
+        ensures { λ r. ⌜ Unbound r ⌝ }
+    {
+        let s = Slot {
+            binding: Binding::Unknown,
+        };
+        Bound { slots: [s; 9] }
+    }
+
+    pub fn of(self, x: usize) -> Binding
+        requires { ⌜ x < 9 ⌝ }
+        ensures { λ r. ⌜ bindingOf r ≡ boundOf self x ⌝ }
+    {
+        let s = self.slots[x];
+        s.binding
+    }
+
+    pub fn with(self, x: usize, binding: Binding) -> Self
+        requires { ⌜ x < 9 ⌝ }
+        ensures { λ r. ⌜ Rebound self x binding r ⌝ }
+    {
+        let mut b = self;
+        b.slots[x] = Slot { binding: binding };
+        b
+    }
+}
