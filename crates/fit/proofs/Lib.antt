@@ -1,0 +1,4 @@
+pub mod Forms
+pub mod Leading
+pub mod Filling
+pub mod LeafRows
