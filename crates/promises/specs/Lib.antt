@@ -1,0 +1,5 @@
+pub mod Prepared
+pub mod Goals
+pub mod Matched
+pub mod Steps
+pub mod Walked
