@@ -1,11 +1,11 @@
 // The known words of a record, as the matcher's model sees them: where values stand, where they end, and what they agree with.
 mod at;
 mod factors;
-mod next;
 mod parts;
+mod pending;
 mod record;
 mod slots;
-mod values;
+mod value_ends;
 
 pub use at::At;
 pub use at::agrees;
@@ -16,12 +16,12 @@ pub use at::moved;
 pub use factors::count_fits;
 pub use factors::factor_fits;
 pub use factors::inside;
-pub use next::next_word;
 pub use parts::others_frontier;
 pub use parts::others_nothing;
+pub use pending::next_word;
 pub use record::Record;
 pub use record::word;
 pub use slots::Slots;
 pub use slots::slots_from;
-pub use values::value_end;
-pub use values::values_end;
+pub use value_ends::value_end;
+pub use value_ends::values_end;

@@ -1,7 +1,7 @@
 // The values of a record's variables stand one after another: where each begins, and where the last one ends.
 use crate::at::At;
-use crate::values::type_of;
-use crate::values::value_end;
+use crate::value_ends::type_of;
+use crate::value_ends::value_end;
 ghost use Prim.Native.Nat.{_<_, _≤_};
 ghost use lib.ListN.{length, take};
 ghost use Rattle.views.specs.Slots.{Slot, SlotEnd, Slotted};

@@ -1,0 +1,2 @@
+pub mod RowLengths
+pub mod DeadLengths

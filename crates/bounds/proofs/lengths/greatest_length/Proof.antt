@@ -1,0 +1,17 @@
+-- `bounds::lengths::greatest_length` meets its contract. Assumes nothing.
+use native.Mathlib.Omega.{arith}
+use Rattle.bounds.proofs.DeadLengths.{greatest-is, root-asked, root-some}
+use Rattle.bounds.proofs.lengths.greatest_length.Statement.{statement}
+use Rattle.bounds.proofs.lengths.greatest_length.Tie as tie
+
+sub-most : tie.Need-sub-most
+sub-most c = search (root-some, arith)
+
+most-requires : tie.Need-most-requires
+most-requires c κs = search (root-asked, arith)
+
+returns : tie.Need-returns
+returns c = search (greatest-is, arith)
+
+pub greatest-length-spec : {M : Type 1} → statement M
+greatest-length-spec = tie.close (tie.spec sub-most most-requires returns)

@@ -1,0 +1,17 @@
+-- `bounds::lengths::least_length` meets its contract. Assumes nothing.
+use native.Mathlib.Omega.{arith}
+use Rattle.bounds.proofs.DeadLengths.{least-is, root-asked, root-some}
+use Rattle.bounds.proofs.lengths.least_length.Statement.{statement}
+use Rattle.bounds.proofs.lengths.least_length.Tie as tie
+
+sub-least : tie.Need-sub-least
+sub-least c = search (root-some, arith)
+
+least-requires : tie.Need-least-requires
+least-requires c κs = search (root-asked, arith)
+
+returns : tie.Need-returns
+returns c = search (least-is, arith)
+
+pub least-length-spec : {M : Type 1} → statement M
+least-length-spec = tie.close (tie.spec sub-least least-requires returns)

@@ -1,0 +1,18 @@
+-- The lengths that no record of a base has, whatever the accepted image.
+use mathlib.Core.Path.{_≡_}
+use mathlib.Core.List.{List, [], _∷_}
+use mathlib.Core.Option.{none}
+use Prim.Native.Nat.{ℕ, _<_, _≤_}
+use Rattle.meaning.specs.Answer.{Base}
+use Rattle.meaning.specs.Image.{imageFault}
+use Rattle.promises.specs.Goals.{baseListing}
+use Rattle.search.specs.Classes.{Dead}
+
+-- 65535 is no bound
+pub record GreatestLength (t : List ℕ) (r : ℕ) : Type 0 where
+  pub small : r ≤ 65535
+  pub dead : (image : List ℕ) → imageFault image ≡ none → r < 65535 → (b : Base) (n : ℕ) → r < n → Dead (n ∷ []) (baseListing image t b)
+
+pub record LeastLength (t : List ℕ) (r : ℕ) : Type 0 where
+  pub small : r ≤ 65535
+  pub dead : (image : List ℕ) → imageFault image ≡ none → (b : Base) (n : ℕ) → n < r → Dead (n ∷ []) (baseListing image t b)

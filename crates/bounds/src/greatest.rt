@@ -1,0 +1,50 @@
+// The greatest number of edges of a match; 65535 is no bound.
+use crate::numbers::END;
+use crate::numbers::greater;
+use crate::numbers::product;
+use crate::numbers::sum;
+use rows::row_at;
+ghost use Prim.Native.Nat.{_≤_};
+ghost use Rattle.rows.specs.Faults.{Stands};
+ghost use Rattle.bounds.specs.Rows.{Most, MostRepeated};
+
+// The bound of up to n matches with at most a edges each; n: 65535 is no bound.
+fn repeated(n: usize, a: usize) -> usize
+    requires { ⌜ (n ≤ 65535) × (a ≤ 65535) ⌝ }
+    ensures { λ r. ⌜ MostRepeated n a r ⌝ }
+{
+    if n == END {
+        return END;
+    }
+    if a == END {
+        return END;
+    }
+    product(n, a)
+}
+
+pub fn most(row: usize, pat: &[u16]) -> usize
+    requires { ⌜ Stands (now pat) row ⌝ }
+    ensures { λ r. ⌜ Most (now (pat .entry)) row r ⌝ }
+{
+    let r = row_at(pat, row);
+    let kind = r.kind;
+    match kind {
+        2..=4 => 1,
+        5 => {
+            let a = most(r.p, pat);
+            let b = most(r.q, pat);
+            greater(a, b)
+        }
+        6 => {
+            let a = most(r.p, pat);
+            let b = most(r.q, pat);
+            sum(a, b)
+        }
+        7 => most(r.p, pat),
+        8 => {
+            let a = most(r.p, pat);
+            repeated(r.s, a)
+        }
+        _ => 0,
+    }
+}
