@@ -30,10 +30,10 @@ module _ (d : List ℕ) where
       go true e = le-ltb (length d) 64 (leb-true 64 (length d) e)
       go false e = lt-ltb (length d) 64 (leb-false 64 (length d) e)
 
-  wide-is : (s : Bool) → s ≡ not (wideEnough d) → s ≡ false → wideEnough d ≡ true
+  pub wide-is : (s : Bool) → s ≡ not (wideEnough d) → s ≡ false → wideEnough d ≡ true
   wide-is s e f = not-false (wideEnough d) (sym e ∙ f)
 
-  narrow-is : (s : Bool) → s ≡ not (wideEnough d) → s ≡ true → wideEnough d ≡ false
+  pub narrow-is : (s : Bool) → s ≡ not (wideEnough d) → s ≡ true → wideEnough d ≡ false
   narrow-is s e f = not-true (wideEnough d) (sym e ∙ f)
 
   pub wide-enough : (s : Bool) → s ≡ not (wideEnough d) → s ≡ false → 64 ≤ length d

@@ -1,8 +1,21 @@
 // The operations for C: nothing but calls of the proved library and the report. Each promise holds for all that is lent.
+mod fixed;
+
+use fixed::first_cause;
+use page::State;
+use table::Verdict;
 ghost use mathlib.Core.Path.{_≡_};
 ghost use mathlib.Core.Bool.{not};
-ghost use Rattle.meaning.specs.Report.{wideEnough};
-ghost use Rattle.meaning.specs.Operations.{ReadLeft, readImage, CheckLeft, checkPattern};
+ghost use mathlib.Core.Option.{none};
+ghost use Prim.Native.Nat.{_≤_};
+ghost use lib.ListN.{length};
+ghost use Rattle.meaning.specs.FullListing.{fixedFault, judge};
+ghost use Rattle.meaning.specs.Page.{Left};
+ghost use Rattle.meaning.specs.Report.{bit, causeBytes, over, wideEnough};
+ghost use Rattle.meaning.specs.Operations.{ReadLeft, readImage, CheckLeft, checkPattern, JudgeLeft, judgeRecord, fillPageLeft};
+ghost use Rattle.table.specs.Verdicts.{causeOf};
+ghost use Rattle.gpc.specs.Answered.{Begun, JudgeReported, PageReported, RestKept};
+ghost use Rattle.promises.specs.Walked.{Filled};
 
 // Whether the eight numbers do not fit.
 fn is_short(report: &[u8]) -> bool
@@ -32,5 +45,142 @@ pub extern "C" fn gpc_check_pattern(pattern: &[u16], types: &mut [u16], report: 
     }
     let checked = table::check_types(pattern, types);
     words::write_report(report, checked.number(), checked.row(), 0, 0, 0, 0);
+    1
+}
+
+// The number and the row of a refusal; all else is 0.
+fn refuse(report: &mut [u8], cause: Verdict)
+    requires { ⌜ 64 ≤ length (now report) ⌝ }
+    ensures { λ _. ⌜ now (report .exit) ≡ over (causeBytes (causeOf cause)) (now (report .entry)) ⌝ }
+{
+    words::write_report(report, cause.number(), cause.row(), 0, 0, 0, 0);
+}
+
+// What every call that looks for records begins with: 0, no room to report; 1, refused; 2, nothing refuses it.
+fn begin(image: &[u8], pattern: &[u16], restrictor: u64, work: &[u16], report: &mut [u8]) -> u64
+    ensures { λ r. ⌜ Begun (now (image .entry)) (now (pattern .entry)) restrictor (now (work .entry)) (now (report .entry)) (now (report .exit)) r ⌝ }
+{
+    if is_short(report) {
+        return 0;
+    }
+    let cause = first_cause(image, pattern, restrictor, work);
+    if cause.is_refused() {
+        refuse(report, cause);
+        return 1;
+    }
+    2
+}
+
+// Yes or no as a number.
+fn verdict_number(yes: bool) -> u64
+    ensures { λ r. ⌜ r ≡ bit yes ⌝ }
+{
+    if yes {
+        return 1;
+    }
+    0
+}
+
+// The judge in the first 20,000 words of the work buffer.
+fn judge_in(image: &[u8], pattern: &[u16], restrictor: u64, rec: &[u16], work: &mut [u16]) -> bool
+    requires { ⌜ (fixedFault (now image) (now pattern) restrictor ≡ none) × (20000 ≤ length (now work)) ⌝ }
+    ensures { λ r. ⌜ (r ≡ judge (now (image .entry)) (now (pattern .entry)) restrictor (now (rec .entry))) × RestKept (now (work .entry)) (now (work .exit)) ⌝ }
+{
+    judge::judge(image, pattern, restrictor, rec, &mut work[0..20000])
+}
+
+// The judge's answer where nothing refuses the call.
+fn report_verdict(
+    image: &[u8],
+    pattern: &[u16],
+    restrictor: u64,
+    rec: &[u16],
+    work: &mut [u16],
+    report: &mut [u8],
+)
+    requires { ⌜ (fixedFault (now image) (now pattern) restrictor ≡ none) × (20000 ≤ length (now work)) × (64 ≤ length (now report)) ⌝ }
+    ensures { λ _. ⌜ JudgeReported (now (image .entry)) (now (pattern .entry)) restrictor (now (rec .entry)) (now (work .entry)) (now (report .entry)) (now (work .exit)) (now (report .exit)) ⌝ }
+{
+    let yes = judge_in(image, pattern, restrictor, rec, work);
+    words::clear(work, 20000);
+    words::write_report(report, 0, 0, verdict_number(yes), 0, 0, 0);
+}
+
+#[no_mangle]
+pub extern "C" fn gpc_judge_record(
+    image: &[u8],
+    pattern: &[u16],
+    restrictor: u64,
+    rec: &[u16],
+    work: &mut [u16],
+    report: &mut [u8],
+) -> u64
+    ensures { λ r. ⌜ _≡_ {A = JudgeLeft} (record { result = r; work = now (work .exit); report = now (report .exit) }) (judgeRecord (now (image .entry)) (now (pattern .entry)) restrictor (now (rec .entry)) (now (work .entry)) (now (report .entry))) ⌝ }
+{
+    let begun = begin(image, pattern, restrictor, work, report);
+    if begun < 2 {
+        return begun;
+    }
+    report_verdict(image, pattern, restrictor, rec, work, report);
+    1
+}
+
+// The listing in the first 20,000 words of the work buffer.
+fn fill_in(
+    image: &[u8],
+    pattern: &[u16],
+    restrictor: u64,
+    bookmark: &[u16],
+    page: &mut [u16],
+    work: &mut [u16],
+) -> State
+    requires { ⌜ (fixedFault (now image) (now pattern) restrictor ≡ none) × (20000 ≤ length (now work)) ⌝ }
+    ensures { λ r. ⌜ Filled (now (image .entry)) (now (pattern .entry)) restrictor (now (bookmark .entry)) (now (page .entry)) (now (page .exit)) r × RestKept (now (work .entry)) (now (work .exit)) ⌝ }
+{
+    lister::fill(
+        image,
+        pattern,
+        restrictor,
+        bookmark,
+        page,
+        &mut work[0..20000],
+    )
+}
+
+// The page filled where nothing refuses the call.
+fn report_page(
+    image: &[u8],
+    pattern: &[u16],
+    restrictor: u64,
+    bookmark: &[u16],
+    page: &mut [u16],
+    work: &mut [u16],
+    report: &mut [u8],
+)
+    requires { ⌜ (fixedFault (now image) (now pattern) restrictor ≡ none) × (20000 ≤ length (now work)) × (64 ≤ length (now report)) ⌝ }
+    ensures { λ _. ⌜ PageReported (now (image .entry)) (now (pattern .entry)) restrictor (now (bookmark .entry)) (now (page .entry)) (now (work .entry)) (now (report .entry)) (now (page .exit)) (now (work .exit)) (now (report .exit)) ⌝ }
+{
+    let st = fill_in(image, pattern, restrictor, bookmark, page, work);
+    words::clear(work, 20000);
+    page::write_totals(report, st);
+}
+
+#[no_mangle]
+pub extern "C" fn gpc_fill_page(
+    image: &[u8],
+    pattern: &[u16],
+    restrictor: u64,
+    bookmark: &[u16],
+    page: &mut [u16],
+    work: &mut [u16],
+    report: &mut [u8],
+) -> u64
+    ensures { λ r. ⌜ _≡_ {A = Left} (record { result = r; page = now (page .exit); work = now (work .exit); report = now (report .exit) }) (fillPageLeft (now (image .entry)) (now (pattern .entry)) restrictor (now (bookmark .entry)) (record { page = now (page .entry); work = now (work .entry); report = now (report .entry) })) ⌝ }
+{
+    let begun = begin(image, pattern, restrictor, work, report);
+    if begun < 2 {
+        return begun;
+    }
+    report_page(image, pattern, restrictor, bookmark, page, work, report);
     1
 }

@@ -11,7 +11,7 @@ ghost use lib.ListN.{length};
 ghost use Rattle.meaning.specs.Table.{rowsOf, rowCause, tableFault, patternFault};
 ghost use Rattle.rows.specs.Faults.{Tells};
 ghost use Rattle.table.specs.Ready.{Ready, faultBy};
-ghost use Rattle.table.specs.Verdicts.{causeOf};
+ghost use Rattle.table.specs.Verdicts.{causeOf, isRefused};
 ghost use Rattle.words.specs.Fault.{numberOf, rowOf};
 
 pub enum Verdict {
@@ -20,6 +20,15 @@ pub enum Verdict {
 }
 
 impl Verdict {
+    pub fn is_refused(self) -> bool
+        ensures { λ r. ⌜ r ≡ isRefused (causeOf self) ⌝ }
+    {
+        match self {
+            Verdict::Accepted => false,
+            Verdict::Refused { number: _, row: _ } => true,
+        }
+    }
+
     // The refusal's number, 0 where there is none.
     pub fn number(self) -> u64
         ensures { λ r. ⌜ r ≡ numberOf (causeOf self) ⌝ }

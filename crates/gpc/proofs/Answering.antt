@@ -1,0 +1,196 @@
+-- What each way through the judge's and the page's operation leaves.
+use mathlib.Core.Path.{_≡_, refl, sym, ap, ap₂, _∙_}
+use mathlib.Core.Bool.{Bool, true, false, not}
+use mathlib.Core.Option.{none, some}
+use mathlib.Core.List.{List, [], _++_, _∷_}
+use Prim.Native.Nat.{ℕ, zero, suc, _-_, _<_, _≤_}
+use mathlib.Core.Logic.{_⊎_, inl, inr}
+use native.Mathlib.Omega.{arith}
+use lib.Dec.{ltb}
+use lib.ListN.{drop, length, replicate, take}
+use borrow.Author.Tests.{le-ltb, leb-true, ltb-false}
+use Rattle.meaning.proofs.Logic.{either, no-false, no-true}
+use Rattle.meaning.specs.Basics.{Cause, firstOf, whole}
+use Rattle.meaning.specs.FullListing.{fixedFault, fullListing, judge}
+use Rattle.meaning.specs.Machine.{fillPage}
+use Rattle.meaning.specs.Operations.{JudgeLeft, fillPageLeft, judgeRecord, judgeUnless}
+use Rattle.meaning.specs.Page.{Left, Lent, after, left, refused, unanswered}
+use Rattle.meaning.specs.Report.{bit, causeBytes, cleared, over, reportBytes, wideEnough}
+use Rattle.page.specs.Pages.{sheetOf}
+use Rattle.page.specs.declared.state.State.{State}
+use Rattle.page.proofs.Reports.{left-is}
+use Rattle.promises.specs.Walked.{Filled}
+use Rattle.search.specs.Sheet.{Sheet, leftBy, placeAll, sheetReport, start}
+use Rattle.search.proofs.PageCall.{call-refused, call-unanswered, page-call}
+use Rattle.table.specs.declared.causes.Verdict.{Verdict}
+use Rattle.table.specs.Verdicts.{causeOf, isRefused}
+use Rattle.words.specs.Fault.{numberOf, rowOf}
+use Rattle.words.proofs.Refusals.{cause-reported}
+use Rattle.gpc.specs.Answered.{Begun, FirstCause, JudgeReported, PageReported, RestKept}
+use Rattle.gpc.proofs.Ways.{narrow-is, wide-enough, wide-is}
+
+-- ------------------------------------------------------------------ the work buffer
+pub drop-part : (n : ℕ) (ys w : List ℕ) → length ys ≡ n → drop n (ys ++ w) ≡ w
+drop-part zero [] w e = refl
+drop-part zero (y ∷ ys) w e = absurd (omega arith)
+drop-part (suc n) [] w e = absurd (omega arith)
+drop-part (suc n) (y ∷ ys) w e = drop-part n ys w (omega arith)
+
+cleared-rest : (n : ℕ) (a b : List ℕ) → drop n a ≡ drop n b → cleared n a ≡ cleared n b
+unfolding cleared
+cleared-rest n a b e = ap (λ (w : List ℕ). replicate n 0 ++ w) e
+
+pub refusal-written : (v : Verdict) (a b : ℕ) (report₀ report : List ℕ) → a ≡ numberOf (causeOf v) → b ≡ rowOf (causeOf v) → report ≡ over (reportBytes a b 0 0 0 0) report₀ → report ≡ over (causeBytes (causeOf v)) report₀
+refusal-written v a b report₀ report e f w = w ∙ rw (e, f, cause-reported (causeOf v)) refl
+
+-- ------------------------------------------------------------------ nothing refuses
+pub verdict-reported : (image t : List ℕ) (n : ℕ) (rec work₀ report₀ work₁ work report : List ℕ) (verdict : Bool) (v : ℕ)
+    → verdict ≡ judge image t n rec → RestKept work₀ work₁ → work ≡ cleared 20000 work₁ → v ≡ bit verdict → report ≡ over (reportBytes 0 0 v 0 0 0) report₀
+    → JudgeReported image t n rec work₀ report₀ work report
+verdict-reported image t n rec work₀ report₀ work₁ work report verdict v e k c b w = record {
+  work-is = c ∙ cleared-rest 20000 work₁ work₀ (k .is);
+  report-is = w ∙ ap (λ (x : ℕ). over (reportBytes 0 0 x 0 0 0) report₀) (b ∙ ap bit e);
+}
+
+pub page-reported : (image t : List ℕ) (n : ℕ) (bookmark page₀ work₀ report₀ page work₁ work report : List ℕ) (st : State)
+    → Filled image t n bookmark page₀ page st → RestKept work₀ work₁ → work ≡ cleared 20000 work₁ → report ≡ over (sheetReport (sheetOf [] st)) report₀
+    → PageReported image t n bookmark page₀ work₀ report₀ page work report
+page-reported image t n bookmark page₀ work₀ report₀ page work₁ work report st f k c w = record {
+  is = left-is (record { page = page₀; work = work₀; report = report₀ }) st page work report (c ∙ cleared-rest 20000 work₁ work₀ (k .is)) w
+      ∙ ap (leftBy (record { page = page₀; work = work₀; report = report₀ })) (f .is);
+}
+
+-- ------------------------------------------------------------------ a cause, or none
+-- c is the first cause, found as the verdict v
+module _ (image t : List ℕ) (n : ℕ) (work : List ℕ) (v : Verdict) (first : FirstCause image t n work v) where
+  found : causeOf v ≡ firstOf (fixedFault image t n) (whole 22 (ltb (length work) 20000))
+  found = first .is
+
+  none-first : (a b : Cause) → isRefused (firstOf a b) ≡ false → (a ≡ none) × (b ≡ none)
+  unfolding firstOf isRefused
+  none-first none none e = (refl, refl)
+  none-first none (some c) e = no-true e
+  none-first (some c) b e = no-true e
+
+  whole-none : (b : Bool) → whole 22 b ≡ none → b ≡ false
+  unfolding whole isRefused
+  whole-none true e = no-true (ap isRefused e)
+  whole-none false e = refl
+
+  neither : (r : Bool) → r ≡ isRefused (causeOf v) → r ≡ false → (fixedFault image t n ≡ none) × (whole 22 (ltb (length work) 20000) ≡ none)
+  neither r e f = none-first (fixedFault image t n) (whole 22 (ltb (length work) 20000)) (ap isRefused (sym found) ∙ (sym e ∙ f))
+
+  pub granted : (r : Bool) → r ≡ isRefused (causeOf v) → r ≡ false → fixedFault image t n ≡ none
+  granted r e f = neither r e f .0
+
+  pub roomy : (r : Bool) → r ≡ isRefused (causeOf v) → r ≡ false → 20000 ≤ length work
+  roomy r e f = ltb-false (length work) 20000 (whole-none (ltb (length work) 20000) (neither r e f .1))
+
+  some-cause : (c : Cause) → isRefused c ≡ true → (x : ℕ × ℕ) × (c ≡ some x)
+  unfolding isRefused
+  some-cause none e = no-false e
+  some-cause (some x) e = (x, refl)
+
+  the-cause : (r : Bool) → r ≡ isRefused (causeOf v) → r ≡ true → (x : ℕ × ℕ) × (causeOf v ≡ some x)
+  the-cause r e f = some-cause (causeOf v) (sym e ∙ f)
+
+  -- ---------------------------------------------------------------- how a call begins
+  module _ (report₀ : List ℕ) (s : Bool) (area : s ≡ not (wideEnough report₀)) where
+    pub begun-refused : s ≡ false → (r : Bool) → r ≡ isRefused (causeOf v) → r ≡ true → (report : List ℕ) → report ≡ over (causeBytes (causeOf v)) report₀ → Begun image t n work report₀ report 1
+    begun-refused h r e f report w =
+        let x = the-cause r e f in
+        record {
+          least = omega arith;
+          unanswered-is = λ z. absurd (omega arith);
+          refused-is = λ z. (wide-is report₀ s area h, (x .0, sym found ∙ x .1, w ∙ rw (x .1) refl));
+          granted-is = λ z. absurd (omega arith);
+        }
+
+    pub begun-granted : s ≡ false → (r : Bool) → r ≡ isRefused (causeOf v) → r ≡ false → Begun image t n work report₀ report₀ 2
+    begun-granted h r e f = record {
+      least = omega arith;
+      unanswered-is = λ z. absurd (omega arith);
+      refused-is = λ z. absurd (omega arith);
+      granted-is = λ z. (wide-is report₀ s area h, granted r e f, roomy r e f, refl);
+    }
+
+pub begun-short : (image t : List ℕ) (n : ℕ) (work report : List ℕ) (s : Bool) → s ≡ not (wideEnough report) → s ≡ true → Begun image t n work report report 0
+begun-short image t n work report s e f = record {
+  least = omega arith;
+  unanswered-is = λ z. (narrow-is report s e f, refl);
+  refused-is = λ z. absurd (omega arith);
+  granted-is = λ z. absurd (omega arith);
+}
+
+-- ------------------------------------------------------------------ how it goes on
+module _ (image t : List ℕ) (n : ℕ) (work report₀ report : List ℕ) (k : ℕ) (begun : Begun image t n work report₀ report k) where
+  -- not refused
+  pub on-granted : 2 ≤ k → fixedFault image t n ≡ none
+  on-granted h = let z : k ≡ 2 = omega (arith, begun .least) in begun .granted-is z .1
+
+  pub on-roomy : 2 ≤ k → 20000 ≤ length work
+  on-roomy h = let z : k ≡ 2 = omega (arith, begun .least) in begun .granted-is z .2
+
+  pub on-wide : 2 ≤ k → 64 ≤ length report
+  unfolding wideEnough
+  on-wide h = let z : k ≡ 2 = omega (arith, begun .least) in let g = begun .granted-is z in rw (g .3) (leb-true 64 (length report₀) (g .0))
+
+  zero-or-one : k < 2 → (k ≡ 0) ⊎ (k ≡ 1)
+  zero-or-one h = go k refl
+    where
+      go : (i : ℕ) → k ≡ i → (k ≡ 0) ⊎ (k ≡ 1)
+      go zero e = inl e
+      go (suc zero) e = inr e
+      go (suc (suc i)) e = absurd (omega arith)
+
+  -- ---------------------------------------------------------------- judge a record
+  module _ (rec : List ℕ) where
+    abbrev Judged : ℕ → List ℕ → List ℕ → Type 0
+    Judged r w d = _≡_ {A = JudgeLeft} (record { result = r; work = w; report = d }) (judgeRecord image t n rec work report₀)
+
+    judge-unanswered : k ≡ 0 → Judged k work report
+    unfolding judgeRecord
+    judge-unanswered z = let u = begun .unanswered-is z in rw (z, u .0, u .1) refl
+
+    judge-refused : k ≡ 1 → Judged k work report
+    unfolding judgeRecord judgeUnless
+    judge-refused z = let u = begun .refused-is z in rw (z, u .0, u .1 .1, u .1 .2) refl
+
+    pub judge-stopped : k < 2 → _≡_ {A = JudgeLeft} (record { result = k; work = work; report = report }) (judgeRecord image t n rec work report₀)
+    judge-stopped h = either (zero-or-one h) judge-unanswered judge-refused
+
+    pub judge-answered : 2 ≤ k → (work₁ report₁ : List ℕ) → JudgeReported image t n rec work report work₁ report₁
+        → _≡_ {A = JudgeLeft} (record { result = 1; work = work₁; report = report₁ }) (judgeRecord image t n rec work report₀)
+    unfolding judgeRecord judgeUnless firstOf whole
+    judge-answered h work₁ report₁ j =
+        let z : k ≡ 2 = omega (arith, begun .least) in
+        let u = begun .granted-is z in
+        rw (u .0, u .1, le-ltb (length work) 20000 (u .2), j .work-is, j .report-is, u .3) refl
+
+  -- ---------------------------------------------------------------- fill a page
+  module _ (bookmark page₀ : List ℕ) where
+    abbrev lent : Lent
+    lent = record { page = page₀; work = work; report = report₀ }
+
+    abbrev answered : ℕ → List ℕ → List ℕ → List ℕ → Left
+    answered r p w d = record { result = r; page = p; work = w; report = d }
+
+    page-unanswered : k ≡ 0 → answered k page₀ work report ≡ fillPageLeft image t n bookmark lent
+    unfolding fillPageLeft left
+    page-unanswered z = let u = begun .unanswered-is z in rw (z, u .1) (sym (call-unanswered image t n bookmark lent (u .0)))
+
+    page-refused : k ≡ 1 → answered k page₀ work report ≡ fillPageLeft image t n bookmark lent
+    unfolding fillPageLeft left
+    page-refused z = let u = begun .refused-is z in rw (z, u .1 .2) (sym (call-refused image t n bookmark lent (u .0) (u .1 .0) (u .1 .1)))
+
+    pub page-stopped : k < 2 → _≡_ {A = Left} (record { result = k; page = page₀; work = work; report = report }) (fillPageLeft image t n bookmark (record { page = page₀; work = work; report = report₀ }))
+    page-stopped h = either (zero-or-one h) page-unanswered page-refused
+
+    pub page-answered : 2 ≤ k → (page work₁ report₁ : List ℕ) → PageReported image t n bookmark page₀ work report page work₁ report₁
+        → _≡_ {A = Left} (record { result = 1; page = page; work = work₁; report = report₁ }) (fillPageLeft image t n bookmark (record { page = page₀; work = work; report = report₀ }))
+    unfolding fillPageLeft
+    page-answered h page work₁ report₁ j =
+        let z : k ≡ 2 = omega (arith, begun .least) in
+        let u = begun .granted-is z in
+        j .is ∙ (ap (λ (d : List ℕ). leftBy (record { page = page₀; work = work; report = d }) (placeAll (start page₀) (after bookmark (fullListing image t n)))) (u .3)
+        ∙ sym (page-call image t n bookmark lent (u .1) (unfold wideEnough in leb-true 64 (length report₀) (u .0)) (u .2)))

@@ -1,0 +1,38 @@
+-- What a call leaves that nothing refuses.
+use mathlib.Core.Path.{_≡_}
+use mathlib.Core.List.{List}
+use mathlib.Core.Bool.{false, true}
+use mathlib.Core.Option.{none, some}
+use Prim.Native.Nat.{ℕ, _≤_}
+use lib.Dec.{ltb}
+use lib.ListN.{drop, length}
+use Rattle.meaning.specs.Basics.{firstOf, whole}
+use Rattle.meaning.specs.FullListing.{fixedFault, fullListing, judge}
+use Rattle.meaning.specs.Page.{Left, after}
+use Rattle.meaning.specs.Report.{bit, causeBytes, cleared, over, reportBytes, wideEnough}
+use Rattle.search.specs.Sheet.{leftBy, placeAll, start}
+use Rattle.table.specs.Verdicts.{causeOf}
+use Rattle.table.specs.declared.causes.Verdict.{Verdict}
+
+-- v is the first cause that refuses a call, in the order of 01
+pub record FirstCause (image t : List ℕ) (n : ℕ) (work : List ℕ) (v : Verdict) : Type 0 where
+  pub is : causeOf v ≡ firstOf (fixedFault image t n) (whole 22 (ltb (length work) 20000))
+
+-- how a call begins: r is 0 if the report has no room, 1 if a cause refuses it, and then report tells the cause
+pub record Begun (image t : List ℕ) (n : ℕ) (work report₀ report : List ℕ) (r : ℕ) : Type 0 where
+  pub least : r ≤ 2
+  pub unanswered-is : r ≡ 0 → (wideEnough report₀ ≡ false) × (report ≡ report₀)
+  pub refused-is : r ≡ 1 → (wideEnough report₀ ≡ true) × ((f : ℕ × ℕ) × (firstOf (fixedFault image t n) (whole 22 (ltb (length work) 20000)) ≡ some f) × (report ≡ over (causeBytes (some f)) report₀))
+  pub granted-is : r ≡ 2 → (wideEnough report₀ ≡ true) × (fixedFault image t n ≡ none) × (20000 ≤ length work) × (report ≡ report₀)
+
+-- the words past the first 20,000 are as they were
+pub record RestKept (work₀ work : List ℕ) : Type 0 where
+  pub is : drop 20000 work ≡ drop 20000 work₀
+
+pub record JudgeReported (image t : List ℕ) (n : ℕ) (rec work₀ report₀ work report : List ℕ) : Type 0 where
+  pub work-is : work ≡ cleared 20000 work₀
+  pub report-is : report ≡ over (reportBytes 0 0 (bit (judge image t n rec)) 0 0 0) report₀
+
+pub record PageReported (image t : List ℕ) (n : ℕ) (bookmark page₀ work₀ report₀ page work report : List ℕ) : Type 0 where
+  pub is : _≡_ {A = Left} (record { result = 1; page = page; work = work; report = report })
+      (leftBy (record { page = page₀; work = work₀; report = report₀ }) (placeAll (start page₀) (after bookmark (fullListing image t n))))

@@ -1,0 +1,2 @@
+pub mod RecordEnds
+pub mod Walking

@@ -1,0 +1,6 @@
+// Whether an answer of the base with a given number of edges leads from one node to another.
+mod pair;
+mod reached;
+
+pub use pair::joined;
+pub use reached::joins_some;

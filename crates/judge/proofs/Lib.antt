@@ -1,0 +1,8 @@
+pub mod ToldWords
+pub mod NodeWays
+pub mod RepeatWays
+pub mod MatchWays
+pub mod ShorterWays
+pub mod Restrictors
+pub mod AnswerWays
+pub mod VerdictWays

@@ -1,0 +1,64 @@
+-- The values and the end of the path, against the model's judge. Assumes nothing.
+use mathlib.Core.Path.{_≡_, refl, sym, ap, _∙_}
+use mathlib.Core.Bool.{Bool, false, _&&_}
+use mathlib.Core.List.{List, [], _∷_}
+use mathlib.Core.Option.{Option, none, some}
+use Prim.Native.Nat.{ℕ, _+_, _*_, _-_, _/_, _<_, _≤_}
+use native.Mathlib.Omega.{arith}
+use lib.Dec.{eqb}
+use lib.ListN.{drop, length, take}
+use lib.Seq.{getD-drop, take-length}
+use borrow.Author.Tests.{eq-eqb, ne-eqb}
+use Rattle.ends.specs.Rows.{Ready}
+use Rattle.matcher.proofs.Opened.{matcher-opened}
+use Rattle.matcher.proofs.Places.{view-frontier, viewAt}
+use Rattle.matcher.specs.Judge.{atEnd}
+use Rattle.matcher.specs.Records.{afterSlots, recordEnds}
+use Rattle.matcher.specs.Values.{skip}
+use Rattle.matcher.specs.Views.{isFrontier}
+use Rattle.meaning.specs.Basics.{eight}
+use Rattle.meaning.specs.Image.{graphOf}
+use Rattle.meaning.specs.Table.{patternOf}
+use Rattle.meaning.specs.Typing.{typeOf}
+use Rattle.plan.proofs.RowOfTable.{ready-is, row-is}
+use Rattle.promises.specs.Matched.{PathEnds}
+use Rattle.promises.specs.Prepared.{Prepared, root}
+use Rattle.views.specs.Slots.{Slotted}
+use Rattle.judge.specs.Judging.{Matches}
+use Rattle.judge.proofs.ToldWords.{skip-first}
+
+at-end-frontier : (o : Option (List ℕ)) → atEnd o ≡ isFrontier o
+unfolding matcher-opened
+at-end-frontier none = refl
+at-end-frontier (some []) = refl
+at-end-frontier (some (w ∷ ws)) = refl
+
+module _ (image t fit plan rec : List ℕ) (last : ℕ) (h : Prepared image t fit plan rec (length rec) last) where
+  -- the last row of the table
+  root-room : (1 ≤ length t / 5) × (length t / 5 - 1 < 64)
+  root-room = let r : Ready image t fit plan rec (length rec) last (length t / 5 - 1) = ready-is image t fit plan rec (length rec) last h in (omega (arith, r .1 .0), r .1 .1)
+
+  pub some-row : 1 ≤ length t / 5
+  some-row = root-room .0
+
+  pub row-few : length t / 5 - 1 < 64
+  row-few = root-room .1
+
+  module _ (at : List ℕ) (end : ℕ) (s : Slotted (take (length rec) rec) (drop (8 * (length t / 5 - 1) + 63) plan) (2 * last + 2) at end) where
+    -- the values end where the words end
+    ends-there : atEnd (afterSlots eight (typeOf (patternOf t)) (skip (2 * last + 1) (drop 1 rec))) ≡ eqb end (length rec)
+    ends-there =
+        let f = typeOf (patternOf t) in
+        let k : take (length rec) rec ≡ rec = take-length rec in
+        let e : viewAt rec end ≡ afterSlots eight f (viewAt rec (2 * last + 2)) = rw k at (s .ends f (λ x low high. getD-drop (8 * root t + 63) plan x 0 ∙ row-is image t fit plan rec (length rec) last h .planned .types x low high)) in
+        ap (λ (o : Option (List ℕ)). atEnd (afterSlots eight f o)) (sym (skip-first rec (2 * last) (omega (arith, h .path-known))))
+        ∙ (ap atEnd (sym e) ∙ (at-end-frontier (viewAt rec end) ∙ view-frontier rec end))
+
+    pub match-ends : (r : Bool) → end ≡ length rec → PathEnds image t rec (length rec) last r → Matches image t rec last r
+    match-ends r e p = record {
+      is = p .is ∙ (ap (λ (l : List ℕ). recordEnds (graphOf image) eight (patternOf t) last (drop 1 l) last) (take-length rec)
+          ∙ sym (ap (λ (b : Bool). b && recordEnds (graphOf image) eight (patternOf t) last (drop 1 rec) last) (ends-there ∙ eq-eqb end (length rec) e)));
+    }
+
+    pub match-no : (end ≡ length rec → ⊥) → Matches image t rec last false
+    match-no n = record { is = sym (ap (λ (b : Bool). b && recordEnds (graphOf image) eight (patternOf t) last (drop 1 rec) last) (ends-there ∙ ne-eqb end (length rec) n)) }

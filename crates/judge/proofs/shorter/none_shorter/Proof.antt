@@ -1,0 +1,66 @@
+-- `judge::none_shorter` meets its contract. The loop's invariant: none with fewer than m edges. Assumes nothing.
+use mathlib.Core.Path.{_≡_}
+use Prim.Native.Nat.{_-_}
+use lib.ListN.{length}
+use native.Mathlib.Omega.{arith}
+use borrow.Author.Needs.{needs}
+use Rattle.judge.proofs.ShorterWays.{NoneYet, none-all, none-first, none-hit, none-more}
+use Rattle.judge.proofs.shorter.none_shorter.Statement.{statement}
+use Rattle.judge.proofs.shorter.none_shorter.Tie as tie
+
+abbrev Inv-loop : tie.InvT-loop
+Inv-loop image s pat plan fit₀ work₀ simple n u v m₀ fit work m = NoneYet image pat simple n u v m × (length fit ≡ length fit₀) × (length work ≡ length work₀)
+
+abbrev μ-loop : tie.MeasureT-loop
+μ-loop image s pat plan fit₀ work₀ simple n u v m₀ fit work m = n - m
+
+loop-holds : tie.Need-loop-holds Inv-loop μ-loop
+loop-holds c = search (none-first, arith)
+
+joined-requires : tie.Need-joined-requires Inv-loop μ-loop
+joined-requires c κs = search needs
+
+same-length : tie.Need-same-length Inv-loop μ-loop
+same-length c = search needs
+
+same-length-2 : tie.Need-same-length-2 Inv-loop μ-loop
+same-length-2 c = search needs
+
+returns : tie.Need-returns Inv-loop μ-loop
+returns c = search (none-hit, arith)
+
+add-m : tie.Need-add-m Inv-loop μ-loop
+add-m c = search needs
+
+loop-less : tie.Need-loop-less Inv-loop μ-loop
+loop-less c = search needs
+
+loop-again : tie.Need-loop-again Inv-loop μ-loop
+loop-again c = search (none-more, arith)
+
+same-length-3 : tie.Need-same-length-3 Inv-loop μ-loop
+same-length-3 c = search needs
+
+same-length-4 : tie.Need-same-length-4 Inv-loop μ-loop
+same-length-4 c = search needs
+
+returns-2 : tie.Need-returns-2 Inv-loop μ-loop
+returns-2 c = search (none-all, arith)
+
+pub none-shorter-spec : {M : Type 1} → statement M
+none-shorter-spec =
+    tie.close
+    (tie.spec
+    Inv-loop
+    μ-loop
+    loop-holds
+    joined-requires
+    same-length
+    same-length-2
+    returns
+    add-m
+    loop-less
+    loop-again
+    same-length-3
+    same-length-4
+    returns-2)

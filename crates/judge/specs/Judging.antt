@@ -1,0 +1,63 @@
+-- What the parts of the judge promise. rec are the words that are judged; last is the number of edges of the path that they tell.
+use mathlib.Core.Path.{_≡_}
+use mathlib.Core.List.{List}
+use mathlib.Core.Bool.{Bool, _&&_, false, true}
+use Prim.Native.Nat.{_*_, _+_, _<_, _≤_, ℕ}
+use lib.ListN.{drop, getD, length}
+use Rattle.matcher.specs.Judge.{atEnd, judgeWords, unrepeated}
+use Rattle.matcher.specs.Records.{afterSlots, edgeWord, nodeWord, recordEnds}
+use Rattle.matcher.specs.Search.{subpath}
+use Rattle.matcher.specs.Values.{skip}
+use Rattle.meaning.specs.Basics.{eight}
+use Rattle.meaning.specs.FullListing.{judge}
+use Rattle.meaning.specs.Graph.{Walk}
+use Rattle.meaning.specs.Image.{graphOf}
+use Rattle.meaning.specs.Table.{patternOf}
+use Rattle.meaning.specs.Typing.{typeOf}
+use Rattle.path.specs.Masks.{baseIf}
+use Rattle.search.specs.Joined.{Joins, NoneBelow}
+
+-- the first word is the number of edges, and the words have room for the path and are not too many
+pub record Told (rec : List ℕ) (last : ℕ) : Type 0 where
+  pub first : getD rec 0 0 ≡ last
+  pub whole : 2 * last + 2 ≤ length rec
+  pub few : last ≤ 200
+  pub short : length rec ≤ 20000
+
+-- the path that the words tell
+abbrev pub told : List ℕ → ℕ → Walk
+told rec last = subpath (nodeWord (drop 1 rec)) (edgeWord (drop 1 rec)) 0 last
+
+-- every node of the path is below count
+pub record NodesBelow (rec : List ℕ) (last count : ℕ) : Type 0 where
+  pub node : (i : ℕ) → i ≤ last → getD rec (2 * i + 1) 0 < count
+
+pub record NodesWithin (rec : List ℕ) (last count : ℕ) (r : Bool) : Type 0 where
+  pub yes-is : r ≡ true → NodesBelow rec last count
+  pub no-is : r ≡ false → (i : ℕ) × (i ≤ last) × (count ≤ getD rec (2 * i + 1) 0)
+
+-- masks can hold the nodes and the edges of the path
+pub record Small (rec : List ℕ) (last : ℕ) : Type 0 where
+  pub node : (i : ℕ) → i ≤ last → getD rec (2 * i + 1) 0 < 256
+  pub edge : (i : ℕ) → i < last → getD rec (2 * i + 2) 0 < 256
+
+-- r tells whether the path keeps the base; b: it is simple
+pub record RepeatsNothing (rec : List ℕ) (last : ℕ) (b r : Bool) : Type 0 where
+  pub is : Small rec last → r ≡ unrepeated (baseIf b) (told rec last)
+
+-- r tells whether the values end where the words end, and the path's end is an end of a match with them
+pub record Matches (image t rec : List ℕ) (last : ℕ) (r : Bool) : Type 0 where
+  pub is : r ≡ (atEnd (afterSlots eight (typeOf (patternOf t)) (skip (2 * last + 1) (drop 1 rec))) && recordEnds (graphOf image) eight (patternOf t) last (drop 1 rec) last)
+
+-- r tells whether no answer of the base with fewer than n edges leads from u to v
+pub record NoneShorter (image t : List ℕ) (b : Bool) (n u v : ℕ) (r : Bool) : Type 0 where
+  pub yes-is : r ≡ true → NoneBelow (graphOf image) (baseIf b) (patternOf t) n u v
+  pub no-is : r ≡ false → (m : ℕ) × (m < n) × Joins (graphOf image) (baseIf b) (patternOf t) m u v
+
+-- r is the judge's answer
+pub record Judges (image t : List ℕ) (n : ℕ) (rec : List ℕ) (r : Bool) : Type 0 where
+  pub is : r ≡ judge image t n rec
+
+-- r is the judge's answer, if the words are the record of an answer of the pattern
+pub record JudgedAnswer (image t : List ℕ) (n : ℕ) (rec : List ℕ) (r : Bool) : Type 0 where
+  pub is : judgeWords (graphOf image) eight (patternOf t) rec ≡ true → r ≡ judge image t n rec
