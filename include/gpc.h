@@ -74,6 +74,48 @@ uint64_t gpc_read_image(const uint8_t *image, size_t image_bytes, uint8_t *repor
 uint64_t gpc_check_pattern(const uint16_t *pattern, size_t pattern_words, uint16_t *types, size_t types_words,
                            uint8_t *report, size_t report_bytes);
 
+/* Refusal numbers of the judge and of the page, tried in this order after those of the image and of the table. */
+#define GPC_RESTRICTOR 21         /* a restrictor that is not 1 to 4 */
+#define GPC_WORK_TOO_SHORT 22     /* a work buffer of fewer than 20,000 words */
+#define GPC_PAGE_TOO_SHORT 23     /* the next record is longer than the page; only gpc_fill_page */
+
+#define GPC_TRAIL 1               /* no edge occurs twice in a path */
+#define GPC_SIMPLE 2              /* no node occurs twice in a path */
+#define GPC_SHORTEST_TRAIL 3      /* of the trails with the same ends, the shortest */
+#define GPC_SHORTEST_SIMPLE 4     /* of the simple paths with the same ends, the shortest */
+
+#define GPC_WORK_WORDS 20000
+#define GPC_NOTHING 65535         /* the word that stands for Nothing in a record */
+
+/* A record, in 16-bit words: the number of edges of the path; its nodes and edges, alternating; then for each variable that the
+ * pattern uses, in rising order, its value: the number of a node or an edge; GPC_NOTHING; or, for a group, its count and then for each
+ * factor the factor's path, written like the record's own, and the value in it. Nodes and edges are counted from 0 in the image's
+ * order. Records are ordered word by word, a proper beginning first. No record is longer than 16,410 words. */
+
+/* Judges whether the given words are a record of the listing of an image, a pattern and a restrictor.
+ *
+ * Report: [0] and [1] as above for what is refused, 1 to 7, 11 to 16, 21, 22 in this order; not refused, [2] is 1 for yes and 0 for no.
+ * Words that are no record at all get no. Through 22 the work buffer is as it was; otherwise its first 20,000 words are 0 afterwards,
+ * and words past them keep what they held. Image, pattern and record are not changed.
+ */
+uint64_t gpc_judge_record(const uint8_t *image, size_t image_bytes, const uint16_t *pattern, size_t pattern_words,
+                          uint64_t restrictor, const uint16_t *record, size_t record_words, uint16_t *work, size_t work_words,
+                          uint8_t *report, size_t report_bytes);
+
+/* Fills a page with the records of the listing that come after a bookmark, in their order, as far as whole records fit.
+ *
+ * The bookmark is any words; no words stand before every record. Pass the last record of the page before to go on after it: over every
+ * list of calls, refused ones among them, the pages then are those of a machine that reads on through the whole listing.
+ * Report: [0] and [1] as for the judge, and 23 if the next record is longer than the page. Not refused: [2] records on the page,
+ * [3] words that they take, [4] 1 if no later record exists, 0 if one does. With 23, [5] is the words that the next record needs;
+ * a page with so much room gets it.
+ * A refusal leaves the page as it was, and so does a page on which no record is placed; words past those reported keep what they held.
+ * The work buffer: as for the judge, cleared also after 23.
+ */
+uint64_t gpc_fill_page(const uint8_t *image, size_t image_bytes, const uint16_t *pattern, size_t pattern_words,
+                       uint64_t restrictor, const uint16_t *bookmark, size_t bookmark_words, uint16_t *page, size_t page_words,
+                       uint16_t *work, size_t work_words, uint8_t *report, size_t report_bytes);
+
 #ifdef __cplusplus
 }
 #endif

@@ -4,7 +4,7 @@
  *
  * The text of a case is described in tests/enumerator/README.md. Each buffer stands between guard bytes, which must be as
  * they were afterwards, and so must every buffer that a call may only read. A buffer of length 0 is lent as a null pointer
- * in every other case. The last line is 'N passed, M failed', a case being one test.
+ * in every other case. The last line is 'N passed, M failed', a case being one test: it passes if each of its calls does.
  */
 #include <stdint.h>
 #include <stdio.h>
@@ -24,8 +24,10 @@ struct field {
     uint8_t *memory;
 };
 
+/* The fields of one call. The first ones, as many as are fixed, serve every call of the case. */
 struct sample {
     size_t count;
+    size_t fixed;
     struct field fields[MOST_FIELDS];
 };
 
@@ -121,9 +123,10 @@ static void take_field(struct sample *s, char *line) {
     pieces(f, value, 1);
 }
 
-static void forget(struct sample *s) {
-    for (size_t i = 0; i < s->count; i++) free(s->fields[i].memory);
-    s->count = 0;
+/* Drops the fields from one on. */
+static void forget(struct sample *s, size_t from) {
+    for (size_t i = from; i < s->count; i++) free(s->fields[i].memory);
+    s->count = from;
 }
 
 static struct field *field(struct sample *s, const char *name) {
@@ -147,6 +150,15 @@ static uint64_t call(const char *sort, struct sample *s, int null) {
     if (strcmp(sort, "tables") == 0)
         return gpc_check_pattern(lent(s, "pattern", null), items(s, "pattern"), lent(s, "types", null), items(s, "types"),
                                  lent(s, "report", null), items(s, "report"));
+    if (strcmp(sort, "records") == 0)
+        return gpc_judge_record(lent(s, "image", null), items(s, "image"), lent(s, "pattern", null), items(s, "pattern"),
+                                field(s, "restrictor")->number, lent(s, "record", null), items(s, "record"),
+                                lent(s, "work", null), items(s, "work"), lent(s, "report", null), items(s, "report"));
+    if (strcmp(sort, "pages") == 0 || strcmp(sort, "lists") == 0)
+        return gpc_fill_page(lent(s, "image", null), items(s, "image"), lent(s, "pattern", null), items(s, "pattern"),
+                             field(s, "restrictor")->number, lent(s, "bookmark", null), items(s, "bookmark"),
+                             lent(s, "page", null), items(s, "page"), lent(s, "work", null), items(s, "work"),
+                             lent(s, "report", null), items(s, "report"));
     die("no such sort");
     return 0;
 }
@@ -180,28 +192,54 @@ static int holds(const char *sort, struct sample *s, int null) {
     return good;
 }
 
+/* What is told of the cases so far. */
+struct tally {
+    size_t passed, failed;
+};
+
+static void end_case(const char *sort, const char *name, struct sample *s, int good, struct tally *t) {
+    if (s->count == 0) return;
+    int null = (int)((t->passed + t->failed) % 2);
+    good = good && holds(sort, s, null);
+    t->passed += good;
+    t->failed += !good;
+    if (!good && t->failed <= MOST_SHOWN) printf("differs: %s case %s\n", sort, name);
+    forget(s, 0);
+    s->fixed = 0;
+}
+
+/* A line "call K": what came before the first one is fixed, and a call before another one is complete. */
+static int next_call(const char *sort, struct sample *s, const struct tally *t) {
+    if (s->fixed == 0) {
+        s->fixed = s->count;
+        return 1;
+    }
+    int good = holds(sort, s, (int)((t->passed + t->failed) % 2));
+    forget(s, s->fixed);
+    return good;
+}
+
 int main(int argc, char **argv) {
     if (argc != 2) die("usage: compare SORT, cases on standard input");
     struct sample s = {0};
+    struct tally t = {0};
     char *line = NULL, name[32] = "";
-    size_t room = 0, passed = 0, failed = 0, number = 0;
-    for (int more = 1; more;) {
-        more = getline(&line, &room, stdin) >= 0;
-        if (more) line[strcspn(line, "\n")] = '\0';
-        if (!more || strncmp(line, "case ", 5) == 0) {
-            if (s.count > 0) {
-                int good = holds(argv[1], &s, (int)(number++ % 2));
-                passed += good;
-                failed += !good;
-                if (!good && failed <= MOST_SHOWN) printf("differs: %s case %s\n", argv[1], name);
-            }
-            forget(&s);
-            if (more) snprintf(name, sizeof name, "%s", line + 5);
+    size_t room = 0;
+    int good = 1;
+    while (getline(&line, &room, stdin) >= 0) {
+        line[strcspn(line, "\n")] = '\0';
+        if (strncmp(line, "case ", 5) == 0) {
+            end_case(argv[1], name, &s, good, &t);
+            good = 1;
+            snprintf(name, sizeof name, "%s", line + 5);
+        } else if (strncmp(line, "call ", 5) == 0) {
+            good = next_call(argv[1], &s, &t) && good;
         } else {
             take_field(&s, line);
         }
     }
+    end_case(argv[1], name, &s, good, &t);
     free(line);
-    printf("%zu passed, %zu failed\n", passed, failed);
-    return failed != 0 || passed == 0;
+    printf("%zu passed, %zu failed\n", t.passed, t.failed);
+    return t.failed != 0 || t.passed == 0;
 }

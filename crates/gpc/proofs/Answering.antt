@@ -11,22 +11,17 @@ use lib.ListN.{drop, length, replicate, take}
 use borrow.Author.Tests.{le-ltb, leb-true, ltb-false}
 use Rattle.meaning.proofs.Logic.{either, no-false, no-true}
 use Rattle.meaning.specs.Basics.{Cause, firstOf, whole}
-use Rattle.meaning.specs.FullListing.{fixedFault, fullListing, judge}
+use Rattle.meaning.specs.FullListing.{fixedFault, judge}
 use Rattle.meaning.specs.Machine.{fillPage}
 use Rattle.meaning.specs.Operations.{JudgeLeft, fillPageLeft, judgeRecord, judgeUnless}
-use Rattle.meaning.specs.Page.{Left, Lent, after, left, refused, unanswered}
+use Rattle.meaning.specs.Page.{Left, Lent, left, refused, unanswered}
 use Rattle.meaning.specs.Report.{bit, causeBytes, cleared, over, reportBytes, wideEnough}
-use Rattle.page.specs.Pages.{sheetOf}
-use Rattle.page.specs.declared.state.State.{State}
-use Rattle.page.proofs.Reports.{left-is}
-use Rattle.promises.specs.Walked.{Filled}
-use Rattle.search.specs.Sheet.{Sheet, leftBy, placeAll, sheetReport, start}
-use Rattle.search.proofs.PageCall.{call-refused, call-unanswered, page-call}
+use Rattle.search.proofs.PageCall.{call-refused, call-unanswered}
 use Rattle.table.specs.declared.causes.Verdict.{Verdict}
 use Rattle.table.specs.Verdicts.{causeOf, isRefused}
 use Rattle.words.specs.Fault.{numberOf, rowOf}
 use Rattle.words.proofs.Refusals.{cause-reported}
-use Rattle.gpc.specs.Answered.{Begun, FirstCause, JudgeReported, PageReported, RestKept}
+use Rattle.gpc.specs.Answered.{Begun, FirstCause, JudgeReported, RestKept}
 use Rattle.gpc.proofs.Ways.{narrow-is, wide-enough, wide-is}
 
 -- ------------------------------------------------------------------ the work buffer
@@ -50,14 +45,6 @@ pub verdict-reported : (image t : List ℕ) (n : ℕ) (rec work₀ report₀ wor
 verdict-reported image t n rec work₀ report₀ work₁ work report verdict v e k c b w = record {
   work-is = c ∙ cleared-rest 20000 work₁ work₀ (k .is);
   report-is = w ∙ ap (λ (x : ℕ). over (reportBytes 0 0 x 0 0 0) report₀) (b ∙ ap bit e);
-}
-
-pub page-reported : (image t : List ℕ) (n : ℕ) (bookmark page₀ work₀ report₀ page work₁ work report : List ℕ) (st : State)
-    → Filled image t n bookmark page₀ page st → RestKept work₀ work₁ → work ≡ cleared 20000 work₁ → report ≡ over (sheetReport (sheetOf [] st)) report₀
-    → PageReported image t n bookmark page₀ work₀ report₀ page work report
-page-reported image t n bookmark page₀ work₀ report₀ page work₁ work report st f k c w = record {
-  is = left-is (record { page = page₀; work = work₀; report = report₀ }) st page work report (c ∙ cleared-rest 20000 work₁ work₀ (k .is)) w
-      ∙ ap (leftBy (record { page = page₀; work = work₀; report = report₀ })) (f .is);
 }
 
 -- ------------------------------------------------------------------ a cause, or none
@@ -186,11 +173,9 @@ module _ (image t : List ℕ) (n : ℕ) (work report₀ report : List ℕ) (k : 
     pub page-stopped : k < 2 → _≡_ {A = Left} (record { result = k; page = page₀; work = work; report = report }) (fillPageLeft image t n bookmark (record { page = page₀; work = work; report = report₀ }))
     page-stopped h = either (zero-or-one h) page-unanswered page-refused
 
-    pub page-answered : 2 ≤ k → (page work₁ report₁ : List ℕ) → PageReported image t n bookmark page₀ work report page work₁ report₁
-        → _≡_ {A = Left} (record { result = 1; page = page; work = work₁; report = report₁ }) (fillPageLeft image t n bookmark (record { page = page₀; work = work; report = report₀ }))
-    unfolding fillPageLeft
-    page-answered h page work₁ report₁ j =
+    pub page-answered : 2 ≤ k → (r : ℕ) (page work₁ report₁ : List ℕ)
+        → _≡_ {A = Left} (record { result = r; page = page; work = work₁; report = report₁ }) (fillPageLeft image t n bookmark (record { page = page₀; work = work; report = report }))
+        → _≡_ {A = Left} (record { result = r; page = page; work = work₁; report = report₁ }) (fillPageLeft image t n bookmark (record { page = page₀; work = work; report = report₀ }))
+    page-answered h r page work₁ report₁ e =
         let z : k ≡ 2 = omega (arith, begun .least) in
-        let u = begun .granted-is z in
-        j .is ∙ (ap (λ (d : List ℕ). leftBy (record { page = page₀; work = work; report = d }) (placeAll (start page₀) (after bookmark (fullListing image t n)))) (u .3)
-        ∙ sym (page-call image t n bookmark lent (u .1) (unfold wideEnough in leb-true 64 (length report₀) (u .0)) (u .2)))
+        e ∙ ap (λ (d : List ℕ). fillPageLeft image t n bookmark (record { page = page₀; work = work; report = d })) (begun .granted-is z .3)

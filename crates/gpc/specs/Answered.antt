@@ -7,10 +7,8 @@ use Prim.Native.Nat.{ℕ, _≤_}
 use lib.Dec.{ltb}
 use lib.ListN.{drop, length}
 use Rattle.meaning.specs.Basics.{firstOf, whole}
-use Rattle.meaning.specs.FullListing.{fixedFault, fullListing, judge}
-use Rattle.meaning.specs.Page.{Left, after}
+use Rattle.meaning.specs.FullListing.{fixedFault, judge}
 use Rattle.meaning.specs.Report.{bit, causeBytes, cleared, over, reportBytes, wideEnough}
-use Rattle.search.specs.Sheet.{leftBy, placeAll, start}
 use Rattle.table.specs.Verdicts.{causeOf}
 use Rattle.table.specs.declared.causes.Verdict.{Verdict}
 
@@ -32,7 +30,3 @@ pub record RestKept (work₀ work : List ℕ) : Type 0 where
 pub record JudgeReported (image t : List ℕ) (n : ℕ) (rec work₀ report₀ work report : List ℕ) : Type 0 where
   pub work-is : work ≡ cleared 20000 work₀
   pub report-is : report ≡ over (reportBytes 0 0 (bit (judge image t n rec)) 0 0 0) report₀
-
-pub record PageReported (image t : List ℕ) (n : ℕ) (bookmark page₀ work₀ report₀ page work report : List ℕ) : Type 0 where
-  pub is : _≡_ {A = Left} (record { result = 1; page = page; work = work; report = report })
-      (leftBy (record { page = page₀; work = work₀; report = report₀ }) (placeAll (start page₀) (after bookmark (fullListing image t n))))

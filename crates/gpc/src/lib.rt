@@ -2,7 +2,6 @@
 mod fixed;
 
 use fixed::first_cause;
-use page::State;
 use table::Verdict;
 ghost use mathlib.Core.Path.{_≡_};
 ghost use mathlib.Core.Bool.{not};
@@ -14,8 +13,7 @@ ghost use Rattle.meaning.specs.Page.{Left};
 ghost use Rattle.meaning.specs.Report.{bit, causeBytes, over, wideEnough};
 ghost use Rattle.meaning.specs.Operations.{ReadLeft, readImage, CheckLeft, checkPattern, JudgeLeft, judgeRecord, fillPageLeft};
 ghost use Rattle.table.specs.Verdicts.{causeOf};
-ghost use Rattle.gpc.specs.Answered.{Begun, JudgeReported, PageReported, RestKept};
-ghost use Rattle.promises.specs.Walked.{Filled};
+ghost use Rattle.gpc.specs.Answered.{Begun, JudgeReported, RestKept};
 
 // Whether the eight numbers do not fit.
 fn is_short(report: &[u8]) -> bool
@@ -125,46 +123,6 @@ pub extern "C" fn gpc_judge_record(
     1
 }
 
-// The listing in the first 20,000 words of the work buffer.
-fn fill_in(
-    image: &[u8],
-    pattern: &[u16],
-    restrictor: u64,
-    bookmark: &[u16],
-    page: &mut [u16],
-    work: &mut [u16],
-) -> State
-    requires { ⌜ (fixedFault (now image) (now pattern) restrictor ≡ none) × (20000 ≤ length (now work)) ⌝ }
-    ensures { λ r. ⌜ Filled (now (image .entry)) (now (pattern .entry)) restrictor (now (bookmark .entry)) (now (page .entry)) (now (page .exit)) r × RestKept (now (work .entry)) (now (work .exit)) ⌝ }
-{
-    lister::fill(
-        image,
-        pattern,
-        restrictor,
-        bookmark,
-        page,
-        &mut work[0..20000],
-    )
-}
-
-// The page filled where nothing refuses the call.
-fn report_page(
-    image: &[u8],
-    pattern: &[u16],
-    restrictor: u64,
-    bookmark: &[u16],
-    page: &mut [u16],
-    work: &mut [u16],
-    report: &mut [u8],
-)
-    requires { ⌜ (fixedFault (now image) (now pattern) restrictor ≡ none) × (20000 ≤ length (now work)) × (64 ≤ length (now report)) ⌝ }
-    ensures { λ _. ⌜ PageReported (now (image .entry)) (now (pattern .entry)) restrictor (now (bookmark .entry)) (now (page .entry)) (now (work .entry)) (now (report .entry)) (now (page .exit)) (now (work .exit)) (now (report .exit)) ⌝ }
-{
-    let st = fill_in(image, pattern, restrictor, bookmark, page, work);
-    words::clear(work, 20000);
-    page::write_totals(report, st);
-}
-
 #[no_mangle]
 pub extern "C" fn gpc_fill_page(
     image: &[u8],
@@ -181,6 +139,5 @@ pub extern "C" fn gpc_fill_page(
     if begun < 2 {
         return begun;
     }
-    report_page(image, pattern, restrictor, bookmark, page, work, report);
-    1
+    lister::fill_page(image, pattern, restrictor, bookmark, page, work, report)
 }

@@ -10,6 +10,8 @@ enumerator images SEED COUNT  comparison cases: reading an image
 enumerator tables SEED COUNT  comparison cases: checking a pattern
 enumerator records SEED COUNT comparison cases: judging a record
 enumerator pages SEED COUNT   comparison cases: filling a page
+enumerator lists SEED COUNT   comparison cases: lists of calls to fill a page
+enumerator listings SEED COUNT comparison cases: what the program prints
 enumerator help               this text
 ";
 

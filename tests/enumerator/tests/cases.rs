@@ -2,6 +2,7 @@
 
 use enumerator::cases;
 use enumerator::operations::{check_pattern, fill_page, judge_record, read_image};
+use enumerator::program;
 use std::collections::BTreeMap;
 
 type Case = BTreeMap<String, String>;
@@ -82,18 +83,55 @@ fn records() {
     }
 }
 
+fn filled(case: &Case) {
+    let (image, pattern) = (bytes(case, "image"), words(case, "pattern"));
+    let (mut page, mut work) = (words(case, "page"), words(case, "work"));
+    let mut report = bytes(case, "report");
+    let (restrictor, bookmark) = (number(case, "restrictor"), words(case, "bookmark"));
+    let result = fill_page(&image, &pattern, restrictor, &bookmark, &mut page, &mut work, &mut report);
+    assert_eq!(result, number(case, "result"));
+    assert_eq!(page, words(case, "page-after"));
+    assert_eq!(work, words(case, "work-after"));
+    assert_eq!(report, bytes(case, "report-after"));
+}
+
 #[test]
 fn pages() {
-    for case in read("pages", 5, 200) {
-        let (image, pattern) = (bytes(&case, "image"), words(&case, "pattern"));
-        let (mut page, mut work) = (words(&case, "page"), words(&case, "work"));
-        let mut report = bytes(&case, "report");
-        let (restrictor, bookmark) = (number(&case, "restrictor"), words(&case, "bookmark"));
-        let result = fill_page(&image, &pattern, restrictor, &bookmark, &mut page, &mut work, &mut report);
-        assert_eq!(result, number(&case, "result"));
-        assert_eq!(page, words(&case, "page-after"));
-        assert_eq!(work, words(&case, "work-after"));
-        assert_eq!(report, bytes(&case, "report-after"));
+    read("pages", 5, 200).iter().for_each(filled);
+}
+
+/// Over a list the machine that counts says what the operation says after the bookmark.
+#[test]
+fn lists() {
+    let mut text = String::new();
+    cases::text("lists", 5, 100, &mut |more| text += more).unwrap();
+    let (mut fixed, mut calls) = (Case::new(), 0);
+    for part in text.split("\ncase ").flat_map(|case| case.split("\ncall ")) {
+        let lines = part.lines().filter_map(|line| line.split_once(' '));
+        let part: Case = lines.map(|(name, rest)| (name.to_string(), rest.to_string())).collect();
+        if part.contains_key("image") {
+            fixed = part;
+            continue;
+        }
+        let mut call = fixed.clone();
+        for name in ["bookmark", "page", "work", "report", "page-after", "work-after", "report-after"] {
+            call.insert(name.to_string(), part.get(name).cloned().unwrap_or_default());
+        }
+        call.insert(String::from("result"), part["result"].clone());
+        filled(&call);
+        calls += 1;
+    }
+    assert!(calls > 300, "{calls}");
+}
+
+#[test]
+fn listings() {
+    let cases = read("listings", 5, 200);
+    for case in &cases {
+        assert_eq!(program::print(&bytes(case, "input")).as_bytes(), bytes(case, "text"));
+    }
+    for note in ["whole", "cut off", "other lengths", "left over", "noise", "long pattern", "many pages"] {
+        assert!(cases.iter().any(|case| case["note"] == note), "{note}");
     }
 }
 

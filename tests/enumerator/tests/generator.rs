@@ -156,6 +156,25 @@ fn candidates_of_each_sort_occur_and_both_judgements() {
     assert!(rewritten.contains(&false));
 }
 
+/// Some are answers all the same: a shortest trail is a trail.
+#[test]
+fn records_of_another_restrictor_are_judged_both_ways() {
+    let mut source = Source::new(13);
+    let mut judged = BTreeSet::new();
+    for _ in 0..300 {
+        let (subject, listing) = subjects::fruitful(&mut source);
+        let words = subjects::of_another_restrictor(&mut source, &subject);
+        judged.extend(words.map(|words| listing.records.contains(&words)));
+    }
+    assert_eq!(judged, BTreeSet::from([false, true]));
+}
+
+#[test]
+fn a_line_fills_several_pages() {
+    let listing = subjects::Subject { image: graphs::line(28).image(), pattern: P.to_vec(), restrictor: 1 }.listing();
+    assert!(listing.records.iter().map(Vec::len).sum::<usize>() > 20_000);
+}
+
 #[test]
 fn buffers_lie_on_both_sides_of_their_bounds() {
     let mut source = Source::new(11);

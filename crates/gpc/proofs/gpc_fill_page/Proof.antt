@@ -4,43 +4,43 @@ use Rattle.gpc.proofs.gpc_fill_page.Tie as tie
 use Rattle.gpc.proofs.gpc_fill_page.Reads as reads
 use Rattle.gpc.proofs.gpc_fill_page.Lts as lts
 use Rattle.gpc.proofs.begin.Reads as begin-reads
-use Rattle.gpc.proofs.report_page.Reads as report-page-reads
+use Rattle.lister.proofs.fill_page.Reads as fill-page-reads
 use native.Mathlib.Omega.{arith}
 use Rattle.gpc.proofs.Answering.{on-granted, on-roomy, on-wide, page-answered, page-stopped}
 
--- src/lib.rt:175:9
+-- src/lib.rt:138:9
 begin-requires : tie.Need-begin-requires
 begin-requires c κs = search needs
 
--- src/lib.rt:177:9
+-- src/lib.rt:140:9
 same-length : tie.Need-same-length
 same-length c = search needs
 
--- src/lib.rt:177:9
+-- src/lib.rt:140:9
 same-length-2 : tie.Need-same-length-2
 same-length-2 c = search needs
 
--- src/lib.rt:177:9
+-- src/lib.rt:140:9
 returns : tie.Need-returns
 returns c = search (page-stopped, arith)
 
--- src/lib.rt:179:5
-report-page-requires : tie.Need-report-page-requires
-report-page-requires c κs = (search (on-granted, arith), search (on-roomy, arith), search (on-wide, arith))
+-- src/lib.rt:142:5
+fill-page-requires : tie.Need-fill-page-requires
+fill-page-requires c κs = (search (on-granted, arith), search (on-roomy, arith), search (on-wide, arith))
 
--- src/lib.rt:163:1
+-- src/lib.rt:126:1
 same-length-3 : tie.Need-same-length-3
 same-length-3 c = search needs
 
--- src/lib.rt:163:1
+-- src/lib.rt:126:1
 same-length-4 : tie.Need-same-length-4
 same-length-4 c = search needs
 
--- src/lib.rt:163:1
+-- src/lib.rt:126:1
 same-length-5 : tie.Need-same-length-5
 same-length-5 c = search needs
 
--- src/lib.rt:163:1
+-- src/lib.rt:126:1
 returns-2 : tie.Need-returns-2
 returns-2 c = search (page-answered, arith)
 
@@ -52,7 +52,7 @@ gpc-fill-page-spec =
     same-length
     same-length-2
     returns
-    report-page-requires
+    fill-page-requires
     same-length-3
     same-length-4
     same-length-5

@@ -1,8 +1,10 @@
-//! Comparison cases as text: each case is one call, with every buffer as it is lent
-//! and as the call must leave it. README.md describes the format.
+//! Comparison cases as text: each case is one call or a list of calls, with every buffer
+//! as it is lent and as the call must leave it. README.md describes the format.
 
 mod dump;
 mod images;
+mod listings;
+mod lists;
 mod pages;
 mod records;
 mod tables;
@@ -16,6 +18,8 @@ pub fn text(sort: &str, seed: u64, count: usize, write: &mut dyn FnMut(&str)) ->
         "tables" => tables::batch,
         "records" => records::batch,
         "pages" => pages::batch,
+        "lists" => lists::batch,
+        "listings" => listings::batch,
         _ => return None,
     };
     let mut source = Source::new(seed);

@@ -20,6 +20,9 @@ pub enum Candidate {
 
 use Candidate::*;
 
+/// What is close to a record.
+pub const NEAR_MISSES: [Candidate; 5] = [WordChanged, WordDropped, WordAdded, SplitElsewhere, ValueOfAnother];
+
 /// Every sort; records stand here more often, as they are what is asked about.
 pub const ALL: [Candidate; 10] = [
     Empty, Record, Record, Record, WordChanged, WordDropped, WordAdded, SplitElsewhere, ValueOfAnother, Noise,

@@ -64,6 +64,13 @@ pub fn long(source: &mut Source) -> Draft {
     draft
 }
 
+/// A directed line without labels and properties.
+pub fn line(nodes: usize) -> Draft {
+    let outer = (0..nodes as u16).map(|node| vec![node]).collect();
+    let edges = (1..nodes as u16).map(|node| vec![node - 1, node, 1]).collect();
+    Draft { sections: [outer, edges, vec![], vec![]] }
+}
+
 /// An edge row between two nodes, directed either way or undirected.
 fn link(source: &mut Source, one: usize, other: usize) -> Vec<u16> {
     let (low, high) = (one.min(other) as u16, one.max(other) as u16);

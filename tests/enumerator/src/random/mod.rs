@@ -6,6 +6,7 @@ pub mod cost;
 pub mod damage;
 pub mod faults;
 pub mod graphs;
+pub mod inputs;
 pub mod malformed;
 pub mod patterns;
 pub mod source;

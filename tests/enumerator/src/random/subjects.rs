@@ -4,6 +4,7 @@ use super::cost::affordable;
 use super::source::Source;
 use super::{damage, graphs, tables};
 use crate::listing::Listing;
+use crate::record::Record;
 
 #[derive(Clone, Debug)]
 pub struct Subject {
@@ -62,4 +63,18 @@ pub fn any(source: &mut Source) -> Subject {
             return subject;
         }
     }
+}
+
+/// A record of the same image and pattern under another restrictor: a match that goes
+/// over an edge or a node twice, or is not the shortest, unless it is an answer here too.
+pub fn of_another_restrictor(source: &mut Source, subject: &Subject) -> Option<Record> {
+    let restrictor = source.between(1, 4) as u64;
+    if restrictor == subject.restrictor || !affordable(&subject.image, &subject.pattern, restrictor) {
+        return None;
+    }
+    let other = Subject { restrictor, ..subject.clone() }.listing();
+    if other.records.is_empty() {
+        return None;
+    }
+    Some(source.pick(&other.records))
 }

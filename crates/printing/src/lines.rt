@@ -1,0 +1,59 @@
+// The lines of a listing: a record on each, and the last one; or why it is refused.
+use crate::records::record_end;
+use crate::text::Buffer;
+use crate::text::put_byte;
+use crate::text::put_number;
+use crate::text::put_text;
+ghost use Prim.Native.Nat.{_≤_};
+ghost use lib.ListN.{length};
+
+fn wide(word: u16) -> u64 {
+    word as u64
+}
+
+// The words parted by spaces, and the line's end.
+fn put_record(out: &mut Buffer, n: usize, words: &[u16]) -> usize {
+    let mut end = n;
+    let mut i: usize = 0;
+    while i < words.len() {
+        if 0 < i {
+            end = put_byte(out, end, b' ');
+        }
+        end = put_number(out, end, wide(words[i]));
+        i += 1;
+    }
+    put_byte(out, end, b'\n')
+}
+
+// Each record on a line.
+fn put_records(out: &mut Buffer, n: usize, types: &[u16], words: &[u16]) -> usize {
+    let mut end = n;
+    let mut at: usize = 0;
+    while at < words.len() {
+        let next = record_end(types, words, at);
+        end = put_record(out, end, &words[at..next]);
+        at = next;
+    }
+    end
+}
+
+// The records of a page of which some words are used.
+pub fn put_page(out: &mut Buffer, n: usize, types: &[u16], page: &[u16], used: usize) -> usize
+    requires { ⌜ used ≤ length (now page) ⌝ }
+{
+    put_records(out, n, types, &page[0..used])
+}
+
+pub fn put_done(out: &mut Buffer, n: usize, count: u64) -> usize {
+    let mut end = put_text(out, n, b"done ");
+    end = put_number(out, end, count);
+    put_byte(out, end, b'\n')
+}
+
+pub fn put_refusal(out: &mut Buffer, n: usize, number: u64, row: u64) -> usize {
+    let mut end = put_text(out, n, b"refused ");
+    end = put_number(out, end, number);
+    end = put_text(out, end, b" row ");
+    end = put_number(out, end, row);
+    put_byte(out, end, b'\n')
+}
