@@ -1,8 +1,14 @@
 # make test: every test, ending with one line 'N passed, M failed'.
 # make bench: the judge's cost on ambiguous patterns, as ratios.
 # make run: the listing of a sample record, every chain of maps that leads to the present one.
+# make lib: the archive for C, target/staticlib/libgpc.a.
+# make install PREFIX=...: archive, header and pkg-config file under a folder; DESTDIR is put before it where files are staged.
+# make examples: the tools of examples/, in target/examples.
 
-.PHONY: test run bench
+PREFIX = /usr/local
+to = $(DESTDIR)$(abspath $(PREFIX))
+
+.PHONY: test run bench lib install examples
 
 test:
 	@bash tests/run
@@ -12,3 +18,15 @@ run:
 
 bench:
 	@bash bench/run
+
+lib:
+	@bash tests/c/archive
+
+install: lib
+	install -d "$(to)/lib/pkgconfig" "$(to)/include"
+	install -m 644 target/staticlib/libgpc.a "$(to)/lib"
+	install -m 644 include/gpc.h "$(to)/include"
+	sed 's|@PREFIX@|$(abspath $(PREFIX))|' include/gpc.pc.in >"$(to)/lib/pkgconfig/gpc.pc"
+
+examples:
+	@bash examples/build encode host show

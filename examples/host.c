@@ -1,0 +1,130 @@
+/* A host: lists all answers to a pattern over a record, page by page. Not proved; it is meant to be copied from.
+ *
+ *     host IMAGE PATTERN RESTRICTOR
+ *
+ * IMAGE holds the bytes of a graph image, PATTERN the words of a table, low byte first (see encode.c). Prints the types, each record
+ * on a line and the total, as the program that prints a listing does; lines that begin with # tell of the calls.
+ */
+#include <inttypes.h>
+#include <stdio.h>
+#include <stdlib.h>
+#include <string.h>
+
+#include "record.h"
+
+/* Too small for most records on purpose, so that growing is seen. A host that wants it simple and fast lends 16,410 words or more:
+ * any record fits in them. */
+enum { FIRST_PAGE_WORDS = 4 };
+
+/* A listing keeps image, pattern and restrictor; the bookmark is all that goes from call to call. */
+struct listing {
+    struct bytes image;
+    struct words pattern;
+    uint64_t restrictor;
+    uint16_t types[GPC_TYPE_WORDS];
+    struct words page;
+    struct words bookmark;
+    uint64_t total;
+    uint8_t report[GPC_REPORT_BYTES];
+    uint16_t work[GPC_WORK_WORDS];
+};
+
+/* Both are checked again by every later call; asking first tells what is wrong before anything is listed. */
+static void check(struct listing *l)
+{
+    gpc_read_image(l->image.at, l->image.count, l->report, sizeof l->report);
+    stop_if_refused(l->report);
+    gpc_check_pattern(l->pattern.at, l->pattern.count, l->types, GPC_TYPE_WORDS, l->report, sizeof l->report);
+    stop_if_refused(l->report);
+}
+
+static void print_types(const uint16_t *types)
+{
+    printf("types");
+    for (int v = 1; v <= VARIABLES; v++) {
+        const uint16_t *type = type_of(types, v);
+        if (type[0] == 0)
+            continue;
+        printf(" %d:%d", v, type[0]);
+        for (int i = 1; i < TYPE_DEPTH && type[i] != 0; i++)
+            printf(".%d", type[i]);
+    }
+    printf("\n");
+}
+
+static void print_record(const uint16_t *record, size_t words)
+{
+    for (size_t i = 0; i < words; i++)
+        printf(i == 0 ? "%d" : " %d", record[i]);
+    printf("\n");
+}
+
+/* A copy, since the page is written by the next call and may not overlap what that call reads. */
+static void keep_bookmark(struct listing *l, const uint16_t *record, size_t words)
+{
+    resize(&l->bookmark, words);
+    memcpy(l->bookmark.at, record, words * sizeof *record);
+}
+
+/* Takes the records off the page; the types alone say where each one ends. */
+static void take_page(struct listing *l)
+{
+    uint64_t records = reported(l->report, 2);
+    const uint16_t *record = l->page.at;
+    size_t words = 0;
+    printf("# page of %zu words: %" PRIu64 " placed\n", l->page.count, records);
+    for (uint64_t i = 0; i < records; i++) {
+        record += words;
+        words = record_words(l->types, record);
+        print_record(record, words);
+    }
+    if (records > 0)
+        keep_bookmark(l, record, words);
+    l->total += records;
+}
+
+/* The page has no room for the next record. Nothing was placed, so the page may be lost, and the same bookmark serves again. It grows
+ * past the need, since every call finds its way to the bookmark first: many records on a page are cheaper than many pages. */
+static void grow_page(struct listing *l)
+{
+    uint64_t needed = reported(l->report, 5);
+    printf("# page of %zu words: the next record needs %" PRIu64 "\n", l->page.count, needed);
+    resize(&l->page, 8 * (size_t)needed);
+}
+
+/* One call. Whether another one is due. */
+static int list_page(struct listing *l)
+{
+    gpc_fill_page(l->image.at, l->image.count, l->pattern.at, l->pattern.count, l->restrictor, l->bookmark.at, l->bookmark.count,
+                  l->page.at, l->page.count, l->work, GPC_WORK_WORDS, l->report, sizeof l->report);
+    if (reported(l->report, 0) == GPC_PAGE_TOO_SHORT) {
+        grow_page(l);
+        return 1;
+    }
+    stop_if_refused(l->report);
+    take_page(l);
+    return reported(l->report, 4) == 0;
+}
+
+int main(int argc, char **argv)
+{
+    static struct listing l;
+    if (argc != 4) {
+        fputs("usage: host IMAGE PATTERN RESTRICTOR\n", stderr);
+        return 2;
+    }
+    l.image = read_bytes(argv[1]);
+    l.pattern = read_words(argv[2]);
+    l.restrictor = strtoull(argv[3], NULL, 10);
+    resize(&l.page, FIRST_PAGE_WORDS);
+    check(&l);
+    print_types(l.types);
+    while (list_page(&l))
+        ;
+    printf("done %" PRIu64 "\n", l.total);
+    free(l.image.at);
+    free(l.pattern.at);
+    free(l.page.at);
+    free(l.bookmark.at);
+    return 0;
+}

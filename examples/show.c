@@ -1,0 +1,144 @@
+/* Prints a graph image and a listing over it for a person. Not proved.
+ *
+ *     show IMAGE                              the graph
+ *     show IMAGE PATTERN RESTRICTOR           the graph, and each record of the listing
+ *     show --dot IMAGE                        the graph for Graphviz
+ *     show --dot K IMAGE PATTERN RESTRICTOR   the same, the path of record K marked, records counted from 0
+ *
+ * Nodes are shown by their outer numbers, edges by an e and their place in the image. Before all else may come --names TEXT, as often
+ * as wanted, with the text that image or pattern was made from (see encode.c): labels, keys and variables then have the names given
+ * there.
+ */
+#include <stdio.h>
+#include <stdlib.h>
+#include <string.h>
+
+#include "view.h"
+
+struct show {
+    struct view view;
+    struct words pattern;
+    uint64_t restrictor;
+    size_t marked;
+    int dot;
+    uint16_t types[GPC_TYPE_WORDS];
+    uint16_t page[GPC_WORK_WORDS], work[GPC_WORK_WORDS], bookmark[GPC_WORK_WORDS];
+    uint8_t report[GPC_REPORT_BYTES];
+};
+
+static struct show show;
+
+static _Noreturn void usage(void)
+{
+    fputs("usage: show [--names TEXT ..] [--dot] IMAGE\n"
+          "       show [--names TEXT ..] [--dot K] IMAGE PATTERN RESTRICTOR\n", stderr);
+    exit(2);
+}
+
+/* Only the lines that give names are looked at. */
+static void read_names(const char *file)
+{
+    static struct text t;
+    for (open_text(&t, file); next_line(&t);) {
+        if (strcmp(t.word[0], "labels") == 0)
+            add_line(&t, &show.view.labels);
+        else if (strcmp(t.word[0], "keys") == 0)
+            add_line(&t, &show.view.keys);
+        else if (strcmp(t.word[0], "variables") == 0)
+            add_line(&t, &show.view.variables);
+    }
+}
+
+/* The page after the bookmark. A page this long has room for any record, so that 23 does not come. */
+static void fill(size_t bookmark_words)
+{
+    gpc_fill_page(show.view.image.at, show.view.image.count, show.pattern.at, show.pattern.count, show.restrictor, show.bookmark,
+                  bookmark_words, show.page, GPC_WORK_WORDS, show.work, GPC_WORK_WORDS, show.report, sizeof show.report);
+    stop_if_refused(show.report);
+}
+
+/* What is done with each record; the answer is whether to go on. */
+static int take(size_t number, const uint16_t *record)
+{
+    if (!show.dot) {
+        printf("record %zu: ", number);
+        print_answer(&show.view, show.types, record);
+    } else if (number == show.marked) {
+        print_dot(&show.view, record);
+        return 0;
+    }
+    return 1;
+}
+
+/* All records, page by page; how many were taken. */
+static size_t each_record(void)
+{
+    size_t taken = 0, words = 0, more = 1;
+    while (more) {
+        fill(words);
+        const uint16_t *record = show.page;
+        words = 0;
+        for (uint64_t left = reported(show.report, 2); left > 0; left--) {
+            record += words;
+            words = record_words(show.types, record);
+            if (!take(taken, record))
+                return taken;
+            taken++;
+        }
+        memcpy(show.bookmark, record, words * sizeof *record);
+        more = reported(show.report, 4) == 0;
+    }
+    if (show.dot) {
+        fprintf(stderr, "show: there are %zu records\n", taken);
+        exit(1);
+    }
+    return taken;
+}
+
+static void list(char **argv)
+{
+    show.pattern = read_words(argv[1]);
+    show.restrictor = strtoull(argv[2], NULL, 10);
+    gpc_check_pattern(show.pattern.at, show.pattern.count, show.types, GPC_TYPE_WORDS, show.report, sizeof show.report);
+    stop_if_refused(show.report);
+    size_t count = each_record();
+    if (!show.dot)
+        printf("%zu records\n", count);
+}
+
+static void read_image(const char *file)
+{
+    show.view.image = read_bytes(file);
+    gpc_read_image(show.view.image.at, show.view.image.count, show.report, sizeof show.report);
+    stop_if_refused(show.report);
+}
+
+/* Takes the options and returns how many arguments they are. */
+static int options(int argc, char **argv)
+{
+    int at = 1;
+    for (; argc > at + 1 && strcmp(argv[at], "--names") == 0; at += 2)
+        read_names(argv[at + 1]);
+    if (argc > at && strcmp(argv[at], "--dot") == 0) {
+        show.dot = 1;
+        at++;
+        if (argc == at + 4)
+            show.marked = strtoull(argv[at++], NULL, 10);
+    }
+    return at;
+}
+
+int main(int argc, char **argv)
+{
+    int at = options(argc, argv);
+    if (argc != at + 1 && argc != at + 3)
+        usage();
+    read_image(argv[at]);
+    if (!show.dot)
+        print_graph(&show.view);
+    else if (argc == at + 1)
+        print_dot(&show.view, NULL);
+    if (argc == at + 3)
+        list(argv + at);
+    return 0;
+}
