@@ -1,5 +1,6 @@
 # make test: every test, ending with one line 'N passed, M failed'.
 # make bench: the judge's cost on ambiguous patterns, as ratios.
+# make fuzz: the exported functions on made-up inputs, for FUZZ_SECONDS (60).
 # make run: the listing of a sample record, every chain of maps that leads to the present one.
 # make lib: the archive for C, target/staticlib/libgpc.a.
 # make install PREFIX=...: archive, header and pkg-config file under a folder; DESTDIR is put before it where files are staged.
@@ -8,7 +9,7 @@
 PREFIX = /usr/local
 to = $(DESTDIR)$(abspath $(PREFIX))
 
-.PHONY: test run bench lib install examples
+.PHONY: test run bench fuzz lib install examples
 
 test:
 	@bash tests/run
@@ -30,3 +31,6 @@ install: lib
 
 examples:
 	@bash examples/build encode host show
+
+fuzz:
+	@bash fuzz/run
