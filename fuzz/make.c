@@ -129,10 +129,10 @@ static unsigned condition(struct making *m, unsigned depth)
     return put_row(m, choice == 4 ? 18 : 19, p, q, 0, 0);
 }
 
-/* A repetition over a row, which gets an edge where it can match without one. */
+/* A repetition over a row, which gets an edge where it can match without one, but for a few that are to be refused. */
 static unsigned repeated(struct making *m, unsigned body)
 {
-    if (m->edgeless[body]) {
+    if (m->edgeless[body] && below(m->b, 32) != 31) {
         unsigned edge = leaf(m, 2 + below(m->b, 3));
         body = put_row(m, 6, body, edge, 0, 0);
     }
