@@ -111,7 +111,7 @@ module _ (image t : List ℕ) (n : ℕ) (rec : List ℕ) (ok : fixedFault image 
   pub source-is : (s : Sections) → Laid image s → Source image t s
   source-is s d = record { accepted = accepted-both image t n ok; laid = d }
 
-pub prepared-is : (image t fit plan rec : List ℕ) (last : ℕ) (s : Sections) → Source image t s → PlanIs t plan → FitIs image t fit rec last → Told rec last → 401 ≤ length fit → Prepared image t fit plan rec (length rec) last
+pub prepared-is : (image t fit plan rec : List ℕ) (last : ℕ) (s : Sections) → Source image t s → PlanIs image t plan → FitIs image t fit rec last → Told rec last → 401 ≤ length fit → Prepared image t fit plan rec (length rec) last
 prepared-is image t fit plan rec last s d p f T l = record {
   accepted = d .accepted;
   plan-is = p;

@@ -23,7 +23,7 @@ pub fn keeps_restrictor(
     last: usize,
     work: &mut [u16],
 ) -> bool
-    requires { ⌜ (fixedFault (now image) (now pat) restrictor ≡ none) × Told (now rec) last × NodesBelow (now rec) last (nodeCount (now image)) × Source (now image) (now pat) s × PlanIs (now pat) (now plan) × (401 ≤ length (now fit)) × (length (now work) ≡ 20000) ⌝ }
+    requires { ⌜ (fixedFault (now image) (now pat) restrictor ≡ none) × Told (now rec) last × NodesBelow (now rec) last (nodeCount (now image)) × Source (now image) (now pat) s × PlanIs (now image) (now pat) (now plan) × (401 ≤ length (now fit)) × (length (now work) ≡ 20000) ⌝ }
     ensures { λ r. ⌜ JudgedAnswer (now (image .entry)) (now (pat .entry)) restrictor (now (rec .entry)) r ⌝ }
 {
     let simple = restrictor % 2 == 0;

@@ -21,7 +21,7 @@ pub fn none_shorter(
     u: u16,
     v: u16,
 ) -> bool
-    requires { ⌜ Source (now image) (now pat) s × PlanIs (now pat) (now plan) × (401 ≤ length (now fit)) × (length (now work) ≡ 20000) × (n ≤ 200) × (u < nodeCount (now image)) × (v < 256) ⌝ }
+    requires { ⌜ Source (now image) (now pat) s × PlanIs (now image) (now pat) (now plan) × (401 ≤ length (now fit)) × (length (now work) ≡ 20000) × (n ≤ 200) × (u < nodeCount (now image)) × (v < 256) ⌝ }
     ensures { λ r. ⌜ NoneShorter (now (image .entry)) (now (pat .entry)) simple n u v r ⌝ }
 {
     let mut m: usize = 0;

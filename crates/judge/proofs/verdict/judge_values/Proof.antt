@@ -1,7 +1,6 @@
 -- `judge::judge_values` meets its contract. Assumes nothing.
 use native.Mathlib.Omega.{arith}
 use borrow.Author.Needs.{needs}
-use Rattle.judge.proofs.Restrictors.{pattern-accepted}
 use Rattle.judge.proofs.VerdictWays.{matched, no-match, prepared-is}
 use Rattle.judge.proofs.verdict.judge_values.Statement.{statement}
 use Rattle.judge.proofs.verdict.judge_values.Tie as tie
@@ -10,7 +9,7 @@ slice-aggregate-fill-plan : tie.Need-slice-aggregate-fill-plan
 slice-aggregate-fill-plan c = search needs
 
 fill-plan-requires : tie.Need-fill-plan-requires
-fill-plan-requires c κs = search (pattern-accepted, arith)
+fill-plan-requires c κs = search needs
 
 slice-aggregate-fill-fit : tie.Need-slice-aggregate-fill-fit
 slice-aggregate-fill-fit c = search needs
