@@ -28,12 +28,6 @@ uint64_t __real_gpc_judge_record(const uint8_t *, size_t, const uint16_t *, size
                                  uint8_t *, size_t);
 uint64_t __real_gpc_fill_page(const uint8_t *, size_t, const uint16_t *, size_t, uint64_t, const uint16_t *, size_t, uint16_t *, size_t,
                               uint16_t *, size_t, uint8_t *, size_t);
-uint64_t __wrap_gpc_read_image(const uint8_t *, size_t, uint8_t *, size_t);
-uint64_t __wrap_gpc_check_pattern(const uint16_t *, size_t, uint16_t *, size_t, uint8_t *, size_t);
-uint64_t __wrap_gpc_judge_record(const uint8_t *, size_t, const uint16_t *, size_t, uint64_t, const uint16_t *, size_t, uint16_t *, size_t,
-                                 uint8_t *, size_t);
-uint64_t __wrap_gpc_fill_page(const uint8_t *, size_t, const uint16_t *, size_t, uint64_t, const uint16_t *, size_t, uint16_t *, size_t,
-                              uint16_t *, size_t, uint8_t *, size_t);
 
 uint64_t __wrap_gpc_read_image(const uint8_t *image, size_t image_bytes, uint8_t *report, size_t report_bytes)
 {
