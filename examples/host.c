@@ -69,7 +69,7 @@ static void keep_bookmark(struct listing *l, const uint16_t *record, size_t word
 /* Takes the records off the page; the types alone say where each one ends. */
 static void take_page(struct listing *l)
 {
-    uint64_t records = reported(l->report, 2);
+    uint64_t records = reported(l->report, GPC_REPORT_RECORDS);
     const uint16_t *record = l->page.at;
     size_t words = 0;
     printf("# page of %zu words: %" PRIu64 " placed\n", l->page.count, records);
@@ -87,7 +87,7 @@ static void take_page(struct listing *l)
  * past the need, since every call finds its way to the bookmark first: many records on a page are cheaper than many pages. */
 static void grow_page(struct listing *l)
 {
-    uint64_t needed = reported(l->report, 5);
+    uint64_t needed = reported(l->report, GPC_REPORT_NEEDED);
     printf("# page of %zu words: the next record needs %" PRIu64 "\n", l->page.count, needed);
     resize(&l->page, 8 * (size_t)needed);
 }
@@ -97,13 +97,13 @@ static int list_page(struct listing *l)
 {
     gpc_fill_page(l->image.at, l->image.count, l->pattern.at, l->pattern.count, l->restrictor, l->bookmark.at, l->bookmark.count,
                   l->page.at, l->page.count, l->work, GPC_WORK_WORDS, l->report, sizeof l->report);
-    if (reported(l->report, 0) == GPC_PAGE_TOO_SHORT) {
+    if (reported(l->report, GPC_REPORT_REFUSAL) == GPC_PAGE_TOO_SHORT) {
         grow_page(l);
         return 1;
     }
     stop_if_refused(l->report);
     take_page(l);
-    return reported(l->report, 4) == 0;
+    return reported(l->report, GPC_REPORT_DONE) == 0;
 }
 
 int main(int argc, char **argv)

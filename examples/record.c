@@ -62,9 +62,9 @@ uint64_t reported(const uint8_t *report, int i)
 
 void stop_if_refused(const uint8_t *report)
 {
-    if (reported(report, 0) == GPC_ACCEPTED)
+    if (reported(report, GPC_REPORT_REFUSAL) == GPC_ACCEPTED)
         return;
-    printf("refused %" PRIu64 " row %" PRIu64 "\n", reported(report, 0), reported(report, 1));
+    printf("refused %" PRIu64 " row %" PRIu64 "\n", reported(report, GPC_REPORT_REFUSAL), reported(report, GPC_REPORT_ROW));
     exit(1);
 }
 

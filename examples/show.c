@@ -78,7 +78,7 @@ static size_t each_record(void)
         fill(words);
         const uint16_t *record = show.page;
         words = 0;
-        for (uint64_t left = reported(show.report, 2); left > 0; left--) {
+        for (uint64_t left = reported(show.report, GPC_REPORT_RECORDS); left > 0; left--) {
             record += words;
             words = record_words(show.types, record);
             if (!take(taken, record))
@@ -86,7 +86,7 @@ static size_t each_record(void)
             taken++;
         }
         memcpy(show.bookmark, record, words * sizeof *record);
-        more = reported(show.report, 4) == 0;
+        more = reported(show.report, GPC_REPORT_DONE) == 0;
     }
     if (show.dot) {
         fprintf(stderr, "show: there are %zu records\n", taken);

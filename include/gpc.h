@@ -12,10 +12,8 @@
  *     bytes) and not proved.
  *
  * The report
- *   Reported numbers are written into the first 64 bytes of the report area, as eight 64-bit numbers, low byte first:
- *     [0]  refusal number, 0 where the call was not refused
- *     [1]  row, 0 where none is named
- *     [2] to [7]  0, unless an operation says otherwise
+ *   Reported numbers are written into the first 64 bytes of the report area, as eight 64-bit numbers, low byte first. GPC_REPORT_...
+ *   below says which number is at which index; [i] stands for the number at index i. Numbers that an operation does not name are 0.
  *   Bytes past the first 64 keep what they held.
  *   With fewer than 64 bytes a call writes nothing anywhere and returns 0; otherwise it returns 1, also where it refuses.
  */
@@ -29,11 +27,28 @@
 extern "C" {
 #endif
 
-#define GPC_REPORT_BYTES 64
-#define GPC_STACK_BYTES 262144
+#define GPC_REPORT_BYTES 64    /* a report area */
+#define GPC_STACK_BYTES 262144 /* a call takes less stack */
+
+/* The numbers of a report by their index. */
+#define GPC_REPORT_REFUSAL 0 /* refusal number, GPC_ACCEPTED where the call was not refused */
+#define GPC_REPORT_ROW 1     /* row of the refusal, counted from 0; 0 where none is named */
+#define GPC_REPORT_VERDICT 2 /* gpc_judge_record: 1 yes, 0 no */
+#define GPC_REPORT_RECORDS 2 /* gpc_fill_page: records on the page */
+#define GPC_REPORT_WORDS 3   /* gpc_fill_page: words that they take */
+#define GPC_REPORT_DONE 4    /* gpc_fill_page: 1 if no later record exists, 0 if one does */
+#define GPC_REPORT_NEEDED 5  /* gpc_fill_page, with GPC_PAGE_TOO_SHORT: words that the next record needs */
+
+/* The limits of an image and of a pattern table. */
+#define GPC_MOST_NODES 200
+#define GPC_MOST_EDGES 200
+#define GPC_MOST_LABELS 800      /* label rows */
+#define GPC_MOST_PROPERTIES 2000 /* property rows */
+#define GPC_MOST_ROWS 64         /* rows of a pattern table */
+#define GPC_VARIABLES 8          /* variables are 1 to 8 */
 
 /* Refusal numbers of the reader, in the order in which they are tried. */
-#define GPC_ACCEPTED 0
+#define GPC_ACCEPTED 0            /* not refused */
 #define GPC_IMAGE_TOO_SHORT 1     /* under 16 bytes */
 #define GPC_IMAGE_DIRECTORY 2     /* sections do not follow each other to the image's end, or a length is not whole rows */
 #define GPC_IMAGE_TOO_MANY_ROWS 3 /* over 200 nodes, 200 edges, 800 label rows or 2,000 property rows */
@@ -43,6 +58,13 @@ extern "C" {
 #define GPC_IMAGE_BAD_PROPERTY 7  /* an element that is none, or a pair (element, key) not above the one before */
 
 /* Reads a graph image and tells whether it is accepted.
+ *
+ * An image is made of 16-bit numbers, low byte first. Bytes 0 to 15 are four pairs of offset and length in bytes: nodes, edges, labels,
+ * properties; the first section begins at byte 16, each next one where the last ended, the last one ends with the image. A node row is
+ * the node's outer number, strictly rising. An edge row is first end, second end, direction: 1 directed, 0 undirected with the first
+ * end not above the second. A label row is element, label (not 0); a property row is element, key, value; both strictly rise, by
+ * (element, label) and by (element, key). Nodes and edges are counted from 0 in row order; with N nodes, element n below N is node n
+ * and element N + e is edge e.
  *
  * Writes the report only: [0] is the number of the first cause that holds, 0 if none does.
  * For 4 to 7, [1] is the lowest faulty row of that section, counted from 0; otherwise it is 0.
@@ -59,13 +81,29 @@ uint64_t gpc_read_image(const uint8_t *image, size_t image_bytes, uint8_t *repor
 #define GPC_PATTERN_UNTYPED 16    /* a row to which the typing rules give no type */
 #define GPC_TYPES_TOO_SHORT 17    /* a type area of fewer than 48 words */
 
-#define GPC_TYPE_WORDS 48
+/* The kinds of a table's rows: the first of a row's five words. */
+#define GPC_KIND_NODE 1          /* p variable or 0, q label or 0; so for the three edges */
+#define GPC_KIND_FORWARD 2       /* a directed edge, from its first end to its second */
+#define GPC_KIND_BACKWARD 3      /* a directed edge the other way */
+#define GPC_KIND_UNDIRECTED 4    /* an undirected edge, either way */
+#define GPC_KIND_UNION 5         /* p and q pattern rows */
+#define GPC_KIND_CONCATENATION 6 /* p and q pattern rows */
+#define GPC_KIND_CONDITIONED 7   /* p a pattern row, q a condition row */
+#define GPC_KIND_REPETITION 8    /* p a pattern row, r least count, s greatest count */
+#define GPC_KIND_CONSTANT 16     /* condition: property q of variable p equals r */
+#define GPC_KIND_EQUAL 17        /* condition: property q of variable p equals property s of variable r */
+#define GPC_KIND_AND 18          /* p and q condition rows */
+#define GPC_KIND_OR 19           /* p and q condition rows */
+#define GPC_KIND_NOT 20          /* p a condition row */
+
+#define GPC_UNBOUNDED 65535 /* a repetition's greatest count: no bound */
+#define GPC_TYPE_WORDS 48   /* a type area: six words for each variable */
 
 /* The numbers of a type, outermost first, padded with 0 to six words for each variable. */
 #define GPC_TYPE_NODE 1
 #define GPC_TYPE_EDGE 2
-#define GPC_TYPE_MAYBE 3
-#define GPC_TYPE_GROUP 4
+#define GPC_TYPE_MAYBE 3 /* Maybe of the type that follows */
+#define GPC_TYPE_GROUP 4 /* Group of the type that follows */
 
 /* Checks a pattern table and tells the types of its variables.
  *
@@ -84,13 +122,15 @@ uint64_t gpc_check_pattern(const uint16_t *pattern, size_t pattern_words, uint16
 #define GPC_WORK_TOO_SHORT 22     /* a work buffer of fewer than 20,000 words */
 #define GPC_PAGE_TOO_SHORT 23     /* the next record is longer than the page; only gpc_fill_page */
 
+/* The restrictors. */
 #define GPC_TRAIL 1               /* no edge occurs twice in a path */
 #define GPC_SIMPLE 2              /* no node occurs twice in a path */
 #define GPC_SHORTEST_TRAIL 3      /* of the trails with the same ends, the shortest */
 #define GPC_SHORTEST_SIMPLE 4     /* of the simple paths with the same ends, the shortest */
 
-#define GPC_WORK_WORDS 20000
-#define GPC_NOTHING 65535         /* the word that stands for Nothing in a record */
+#define GPC_WORK_WORDS 20000        /* a work buffer */
+#define GPC_MOST_RECORD_WORDS 16410 /* no record is longer: a page with so much room never gets GPC_PAGE_TOO_SHORT */
+#define GPC_NOTHING 65535           /* the word that stands for Nothing in a record */
 
 /* A record, in 16-bit words: the number of edges of the path; its nodes and edges, alternating; then for each variable that the
  * pattern uses, in rising order, its value: the number of a node or an edge; GPC_NOTHING; or, for a group, its count and then for each

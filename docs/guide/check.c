@@ -13,8 +13,8 @@ static void check_and_tell(const uint16_t *table, size_t words)
     uint16_t types[GPC_TYPE_WORDS];
     uint8_t report[GPC_REPORT_BYTES];
     gpc_check_pattern(table, words, types, GPC_TYPE_WORDS, report, sizeof report);
-    if (number(report, 0) != 0) {
-        printf("refused %d row %d\n", (int)number(report, 0), (int)number(report, 1));
+    if (number(report, GPC_REPORT_REFUSAL) != 0) {
+        printf("refused %d row %d\n", (int)number(report, GPC_REPORT_REFUSAL), (int)number(report, GPC_REPORT_ROW));
         return;
     }
     for (int x = 1; x <= 8; x++) {

@@ -26,17 +26,17 @@ static const uint8_t image[] = {
 
 /* Every chain of maps that leads to the present one. */
 static const uint16_t pattern[] = {
-    2,  1, LEADS_TO, 0, 0,     /* row 0: a step, variable 1 */
-    8,  0, 0,        1, 65535, /* row 1: one step or more */
-    1,  2, 0,        0, 0,     /* row 2: a map, variable 2 */
-    16, 2, PRESENT,  1, 0,     /* row 3: variable 2 has key PRESENT with value 1 */
-    7,  2, 3,        0, 0,     /* row 4: row 2 under the condition of row 3 */
-    6,  1, 4,        0, 0,     /* row 5: the steps, and then that map */
+    GPC_KIND_FORWARD,       1, LEADS_TO, 0, 0,             /* row 0: a step, variable 1 */
+    GPC_KIND_REPETITION,    0, 0,        1, GPC_UNBOUNDED, /* row 1: one step or more */
+    GPC_KIND_NODE,          2, 0,        0, 0,             /* row 2: a map, variable 2 */
+    GPC_KIND_CONSTANT,      2, PRESENT,  1, 0,             /* row 3: variable 2 has key PRESENT with value 1 */
+    GPC_KIND_CONDITIONED,   2, 3,        0, 0,             /* row 4: row 2 under the condition of row 3 */
+    GPC_KIND_CONCATENATION, 1, 4,        0, 0,             /* row 5: the steps, and then that map */
 };
 
 enum { PATTERN_WORDS = sizeof pattern / sizeof pattern[0] };
 
-/* Number i of a report. */
+/* Number i of a report: GPC_REPORT_REFUSAL and so on. */
 static inline uint64_t number(const uint8_t *report, int i)
 {
     uint64_t n = 0;

@@ -7,10 +7,10 @@ static void judge(const uint16_t *rec, size_t words, uint64_t restrictor)
 {
     uint8_t report[GPC_REPORT_BYTES];
     gpc_judge_record(image, sizeof image, pattern, PATTERN_WORDS, restrictor, rec, words, work, GPC_WORK_WORDS, report, sizeof report);
-    if (number(report, 0) != 0)
-        printf("refused %d row %d\n", (int)number(report, 0), (int)number(report, 1));
+    if (number(report, GPC_REPORT_REFUSAL) != 0)
+        printf("refused %d row %d\n", (int)number(report, GPC_REPORT_REFUSAL), (int)number(report, GPC_REPORT_ROW));
     else
-        puts(number(report, 2) == 1 ? "yes" : "no");
+        puts(number(report, GPC_REPORT_VERDICT) == 1 ? "yes" : "no");
 }
 
 int main(void)

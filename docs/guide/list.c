@@ -1,9 +1,7 @@
 /* Prints the whole listing, page by page, with the outer numbers of the maps. The page is kept short to show number 23. */
 #include "host.h"
 
-enum { MOST = 16410 };
-
-static uint16_t types[GPC_TYPE_WORDS], work[GPC_WORK_WORDS], page[MOST], bookmark[MOST];
+static uint16_t types[GPC_TYPE_WORDS], work[GPC_WORK_WORDS], page[GPC_MOST_RECORD_WORDS], bookmark[GPC_MOST_RECORD_WORDS];
 
 /* Where a path ends whose first word is at 'at': its count of edges, then nodes and edges alternating. */
 static size_t path_end(const uint16_t *w, size_t at) { return at + 2 + 2 * (size_t)w[at]; }
@@ -63,17 +61,17 @@ int main(void)
     do {
         gpc_fill_page(image, sizeof image, pattern, PATTERN_WORDS, GPC_TRAIL, bookmark, marked, page, room, work, GPC_WORK_WORDS, report,
                       sizeof report);
-        if (number(report, 0) == GPC_PAGE_TOO_SHORT) {
-            room = number(report, 5); /* never above MOST */
+        if (number(report, GPC_REPORT_REFUSAL) == GPC_PAGE_TOO_SHORT) {
+            room = number(report, GPC_REPORT_NEEDED); /* never above GPC_MOST_RECORD_WORDS */
             printf("(the next record needs %d words)\n", (int)room);
             continue;
         }
-        if (number(report, 0) != 0)
+        if (number(report, GPC_REPORT_REFUSAL) != 0)
             return 1; /* refused, number and row as the reader or the checker gives them, or 21, 22 */
-        printf("(%d records, %d words)\n", (int)number(report, 2), (int)number(report, 3));
-        if (number(report, 2) > 0)
-            marked = take_page(number(report, 2));
-    } while (number(report, 4) == 0);
+        printf("(%d records, %d words)\n", (int)number(report, GPC_REPORT_RECORDS), (int)number(report, GPC_REPORT_WORDS));
+        if (number(report, GPC_REPORT_RECORDS) > 0)
+            marked = take_page(number(report, GPC_REPORT_RECORDS));
+    } while (number(report, GPC_REPORT_DONE) == 0);
     puts("done");
     return 0;
 }

@@ -5,10 +5,10 @@ static void read_and_tell(const uint8_t *bytes, size_t count)
 {
     uint8_t report[GPC_REPORT_BYTES];
     gpc_read_image(bytes, count, report, sizeof report);
-    if (number(report, 0) == GPC_ACCEPTED)
+    if (number(report, GPC_REPORT_REFUSAL) == GPC_ACCEPTED)
         puts("accepted");
     else
-        printf("refused %d row %d\n", (int)number(report, 0), (int)number(report, 1));
+        printf("refused %d row %d\n", (int)number(report, GPC_REPORT_REFUSAL), (int)number(report, GPC_REPORT_ROW));
 }
 
 int main(void)

@@ -29,7 +29,7 @@ int main(void)
             return 1;
     for (int i = 0; i < 2; i++) {
         pthread_join(threads[i], NULL);
-        printf("restrictor %d: %d records\n", (int)tasks[i].restrictor, (int)number(tasks[i].report, 2));
+        printf("restrictor %d: %d records\n", (int)tasks[i].restrictor, (int)number(tasks[i].report, GPC_REPORT_RECORDS));
     }
     return 0;
 }
