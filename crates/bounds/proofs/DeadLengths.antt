@@ -16,12 +16,12 @@ use Rattle.meaning.specs.Meaning.{Meaning}
 use Rattle.meaning.specs.Record.{places, variableWords}
 use Rattle.meaning.specs.Table.{patternFault, patternOf}
 use Rattle.promises.specs.Goals.{baseListing}
-use Rattle.reach.proofs.Roots.{root-accepted, root-long, root-pattern, root-stands}
 use Rattle.rows.specs.Faults.{Stands}
 use Rattle.search.proofs.AnswerClasses.{answer-dead}
 use Rattle.search.proofs.Beginnings.{head-is}
 use Rattle.search.proofs.Opened.{search-opened}
 use Rattle.search.specs.Classes.{Dead}
+use Rattle.table.proofs.Roots.{root-accepted, root-long, root-pattern, root-stands}
 use Rattle.bounds.specs.Lengths.{GreatestLength, LeastLength}
 use Rattle.bounds.specs.Rows.{Fewest, Most}
 

@@ -5,5 +5,6 @@ pub mod TypedRows
 pub mod Trying
 pub mod Digits
 pub mod AcceptedTable
+pub mod Roots
 pub mod Area
 pub mod Filling
