@@ -1,5 +1,5 @@
 # make test: every test, ending with one line 'N passed, M failed'.
-# make bench: the judge's cost on ambiguous patterns, as ratios.
+# make bench: listings against an enumerator in Rust, SQLite, PostgreSQL and networkx, and the judge's cost on ambiguous patterns.
 # make fuzz: the exported functions on made-up inputs, for FUZZ_SECONDS (60).
 # make run: the listing of a sample record, every chain of maps that leads to the present one.
 # make lib: the archive for C, target/staticlib/libgpc.a.

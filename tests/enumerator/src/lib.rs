@@ -16,5 +16,6 @@ pub mod random;
 pub mod record;
 pub mod refusal;
 pub mod table;
+pub mod timed;
 pub mod typing;
 pub mod value;

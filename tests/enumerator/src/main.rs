@@ -1,6 +1,7 @@
 //! The enumerator as a program.
 
-use enumerator::{cases, program};
+use enumerator::{cases, program, timed};
+use std::fs;
 use std::io::{self, BufWriter, Read, Write};
 use std::process::ExitCode;
 
@@ -12,6 +13,7 @@ enumerator records SEED COUNT comparison cases: judging a record
 enumerator pages SEED COUNT   comparison cases: filling a page
 enumerator lists SEED COUNT   comparison cases: lists of calls to fill a page
 enumerator listings SEED COUNT comparison cases: what the program prints
+enumerator time IMAGE PATTERN RESTRICTOR SECONDS  a listing timed: answers, words, seconds; 'over' after SECONDS
 enumerator help               this text
 ";
 
@@ -22,6 +24,10 @@ fn main() -> ExitCode {
         ["listing"] => listing(),
         [sort, seed, count] => match (seed.parse(), count.parse()) {
             (Ok(seed), Ok(count)) => comparison(sort, seed, count),
+            _ => help(ExitCode::FAILURE),
+        },
+        ["time", image, pattern, restrictor, seconds] => match (restrictor.parse(), seconds.parse()) {
+            (Ok(restrictor), Ok(seconds)) => time(image, pattern, restrictor, seconds),
             _ => help(ExitCode::FAILURE),
         },
         ["help"] => help(ExitCode::SUCCESS),
@@ -42,6 +48,11 @@ fn listing() -> io::Result<ExitCode> {
     let mut input = Vec::new();
     io::stdin().read_to_end(&mut input)?;
     io::stdout().write_all(program::print(&input).as_bytes())?;
+    Ok(ExitCode::SUCCESS)
+}
+
+fn time(image: &str, pattern: &str, restrictor: u64, seconds: f64) -> io::Result<ExitCode> {
+    println!("{}", timed::time(&fs::read(image)?, &fs::read(pattern)?, restrictor, seconds));
     Ok(ExitCode::SUCCESS)
 }
 

@@ -63,3 +63,10 @@ fn of_a_long_pattern_321_words_are_used() {
     assert_eq!(print(&input([40, 400, 1], &t(), &long)), "refused 12 row 0\n");
     assert_eq!(print(&input([40, 65535, 1], &t(), &[1, 0, 0, 0, 0])), "types\n0 0\n0 1\n0 2\ndone 3\n");
 }
+
+#[test]
+fn a_timed_listing_tells_answers_and_words() {
+    let told = enumerator::timed::time(&t(), &bytes(&P), 1, 600.0);
+    assert!(told.starts_with("3 37 "), "{told}");
+    assert_eq!(enumerator::timed::time(&t(), &bytes(&P), 5, 600.0), "refused 21 row 0");
+}

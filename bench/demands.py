@@ -1,0 +1,65 @@
+"""What is asked of the numbers, and whether they meet it."""
+
+from tables import first_page, number, per_line, ratio
+
+DOCUMENT_SECONDS = 19.318 / 7582  # an answer of GDB2 in document 004, Table 1
+MOST_PAGE_SECONDS = 0.050
+PAGE_WORDS = 20000
+NOISE = 1.25  # a cost a word may grow so much and still be called the same
+
+
+def least_ratio(rows, names, of=ratio):
+    """The least over what can be compared."""
+    found = [of(row, name) for row in rows for name in names]
+    return min(each[0] for each in found if each)
+
+
+def flights(rows):
+    found = [row for row in rows if row.case.kind == "flights"]
+    least = least_ratio(found, ["SQLite", "PostgreSQL", "networkx"])
+    slowest = max(per_line(row) for row in found)
+    return [
+        ("flights: an answer at least 20 times faster than the best of SQLite, PostgreSQL, networkx", least >= 20, number(least)),
+        ("flights: an answer at least 250 times faster than in document 004", DOCUMENT_SECONDS / slowest >= 250,
+         number(DOCUMENT_SECONDS / slowest)),
+    ]
+
+
+def enumerator(rows):
+    least = least_ratio(rows, ["enumerator"])
+    least_marked = least_ratio([row for row in rows if row.case.kind in ("ambiguous", "shortest")], ["enumerator"])
+    least_first = least_ratio(rows, ["enumerator"], lambda row, _: first_page(row))
+    return [
+        ("no case over 3 times slower than the enumerator", least >= 1 / 3, number(least)),
+        ("every ambiguous and shortest case faster than the enumerator", least_marked > 1, number(least_marked)),
+        ("every first page faster than the enumerator", least_first > 1, number(least_first)),
+    ]
+
+
+def slow_cases(rows):
+    """Those with a page of 20,000 words that takes too long."""
+    whole = [row for row in rows if row.case.page_words == PAGE_WORDS]
+    return [row.case.name for row in whole if row.engine.worst > MOST_PAGE_SECONDS]
+
+
+def pages(rows):
+    firsts = [row.engine.first for row in rows if row.case.page_words <= PAGE_WORDS]
+    slow = slow_cases(rows)
+    return [
+        ("every first page under 50 ms", max(firsts) <= MOST_PAGE_SECONDS, f"{number(1e3 * max(firsts))} ms"),
+        ("every page of 20,000 words under 50 ms", not slow, f"{len(slow)} cases over" if slow else "all"),
+    ]
+
+
+def growth(found):
+    costs = [page.seconds / page.words for _, page in found]
+    worst = max(later / earlier for at, earlier in enumerate(costs) for later in costs[at:])
+    return [("line with a group: the cost a line grows no faster than its words", worst <= NOISE, number(worst))]
+
+
+def all_demands(rows, found):
+    return flights(rows) + enumerator(rows) + growth(found) + pages(rows)
+
+
+def table(demands):
+    return [["demand", "met", "found"]] + [[what, "yes" if met else "no", shown] for what, met, shown in demands]

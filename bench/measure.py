@@ -1,0 +1,86 @@
+"""Measures every case with the engine and with whatever else can express it."""
+
+import re
+import subprocess
+import sys
+from dataclasses import dataclass, field
+from pathlib import Path
+
+import rivals
+
+SECONDS = 10  # the limit of another program on a case
+FLIGHTS_SECONDS = 60  # there a number is wanted, not a bound
+ENGINE_SECONDS = 20
+FOLDER = Path("target/bench")
+
+
+@dataclass
+class Engine:
+    answers: int
+    words: int
+    pages: int
+    done: bool
+    first: float
+    worst: float
+    seconds: float
+
+
+@dataclass
+class Row:
+    case: object
+    engine: Engine
+    others: dict = field(default_factory=dict)  # name to Result, where the case can be expressed
+
+
+def engine(folder, case, most_pages=0, edges=0):
+    command = [FOLDER / "engine", folder / "image", folder / "pattern", case.restrictor, case.page_words, most_pages or case.most_pages,
+               ENGINE_SECONDS, rivals.RUNS, edges]
+    run = subprocess.run([str(part) for part in command], capture_output=True, text=True)
+    if run.returncode:
+        raise SystemExit(f"{case.name}: the engine ended with {run.returncode} {run.stdout} {run.stderr}")
+    numbers = run.stdout.split()
+    return Engine(*(int(number) for number in numbers[:3]), numbers[3] == "1", *(float(number) for number in numbers[4:]))
+
+
+def agree(row):
+    """Every program that came to the end counts the same answers."""
+    counts = {name: result.answers for name, result in row.others.items() if not result.over}
+    if row.engine.done:
+        counts["engine"] = row.engine.answers
+        words = row.others["enumerator"].words
+        if words not in (0, row.engine.words):
+            raise SystemExit(f"{row.case.name}: {row.engine.words} words, the enumerator has {words}")
+    if len(set(counts.values())) > 1:
+        raise SystemExit(f"{row.case.name}: the answers differ: {counts}")
+
+
+def measure(case, programs, known):
+    folder = FOLDER / re.sub("[^a-z0-9]+", "-", case.name).strip("-")
+    case.write(folder)
+    row = Row(case, engine(folder, case))
+    limit = FLIGHTS_SECONDS if case.kind == "flights" else SECONDS
+    for program in programs:
+        if not program.expresses(case):
+            continue
+        key = program.name, case.listing()
+        if key not in known:
+            most = SECONDS if program.name == "enumerator" else limit
+            known[key] = rivals.best(lambda: program.run(case, folder, most))
+        row.others[program.name] = known[key]
+    agree(row)
+    return row
+
+
+def measure_all(cases, programs):
+    rows, known = [], {}
+    for case in cases:
+        print(f"{case.name} ..", file=sys.stderr)
+        rows.append(measure(case, programs, known))
+    return rows
+
+
+def growth(case, lengths):
+    """One page of the records of so many edges, for each length."""
+    folder = FOLDER / "growth"
+    case.write(folder)
+    return [(edges, engine(folder, case, 1, edges)) for edges in lengths]
