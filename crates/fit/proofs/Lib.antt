@@ -2,3 +2,4 @@ pub mod Forms
 pub mod Leading
 pub mod Filling
 pub mod LeafRows
+pub mod WayWays

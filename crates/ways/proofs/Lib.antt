@@ -1,3 +1,4 @@
 pub mod SetWords
 pub mod LeavingWays
+pub mod NodeMasks
 pub mod Crossing

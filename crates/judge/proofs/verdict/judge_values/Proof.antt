@@ -1,7 +1,5 @@
 -- `judge::judge_values` meets its contract. Assumes nothing.
-use native.Mathlib.Omega.{arith}
 use borrow.Author.Needs.{needs}
-use Rattle.judge.proofs.VerdictWays.{matched, no-match, prepared-is}
 use Rattle.judge.proofs.verdict.judge_values.Statement.{statement}
 use Rattle.judge.proofs.verdict.judge_values.Tie as tie
 
@@ -11,38 +9,17 @@ slice-aggregate-fill-plan c = search needs
 fill-plan-requires : tie.Need-fill-plan-requires
 fill-plan-requires c κs = search needs
 
-slice-aggregate-fill-fit : tie.Need-slice-aggregate-fill-fit
-slice-aggregate-fill-fit c = search needs
+slice-aggregate-judge-by-plan : tie.Need-slice-aggregate-judge-by-plan
+slice-aggregate-judge-by-plan c = search needs
 
-fill-fit-requires : tie.Need-fill-fit-requires
-fill-fit-requires c κs = search needs
-
-slice-aggregate-matches : tie.Need-slice-aggregate-matches
-slice-aggregate-matches c = search needs
-
-slice-aggregate-matches-2 : tie.Need-slice-aggregate-matches-2
-slice-aggregate-matches-2 c = search needs
-
-matches-requires : tie.Need-matches-requires
-matches-requires c κs = search (prepared-is, arith)
-
-slice-aggregate-keeps-restrictor : tie.Need-slice-aggregate-keeps-restrictor
-slice-aggregate-keeps-restrictor c = search needs
-
-slice-aggregate-keeps-restrictor-2 : tie.Need-slice-aggregate-keeps-restrictor-2
-slice-aggregate-keeps-restrictor-2 c = search needs
-
-keeps-restrictor-requires : tie.Need-keeps-restrictor-requires
-keeps-restrictor-requires c κs = search needs
+judge-by-plan-requires : tie.Need-judge-by-plan-requires
+judge-by-plan-requires c κs = search needs
 
 same-length : tie.Need-same-length
 same-length c = search needs
 
 returns : tie.Need-returns
-returns c = search (matched, arith)
-
-returns-2 : tie.Need-returns-2
-returns-2 c = search (no-match, arith)
+returns c = search needs
 
 pub judge-values-spec : {M : Type 1} → statement M
 judge-values-spec =
@@ -50,14 +27,7 @@ judge-values-spec =
     (tie.spec
     slice-aggregate-fill-plan
     fill-plan-requires
-    slice-aggregate-fill-fit
-    fill-fit-requires
-    slice-aggregate-matches
-    slice-aggregate-matches-2
-    matches-requires
-    slice-aggregate-keeps-restrictor
-    slice-aggregate-keeps-restrictor-2
-    keeps-restrictor-requires
+    slice-aggregate-judge-by-plan
+    judge-by-plan-requires
     same-length
-    returns
-    returns-2)
+    returns)
