@@ -14,6 +14,9 @@ Inv-loop image s pat plan fit₀ work₀ simple n u v m₀ fit work m = NoneYet 
 abbrev μ-loop : tie.MeasureT-loop
 μ-loop image s pat plan fit₀ work₀ simple n u v m₀ fit work m = n - m
 
+least-length-requires : tie.Need-least-length-requires Inv-loop μ-loop
+least-length-requires c κs = search needs
+
 loop-holds : tie.Need-loop-holds Inv-loop μ-loop
 loop-holds c = search (none-first, arith)
 
@@ -53,6 +56,7 @@ none-shorter-spec =
     (tie.spec
     Inv-loop
     μ-loop
+    least-length-requires
     loop-holds
     joined-requires
     same-length
