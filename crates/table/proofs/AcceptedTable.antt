@@ -21,12 +21,12 @@ use Rattle.table.specs.Verdicts.{causeOf}
 use Rattle.table.specs.TypeArea.{Checked}
 use Rattle.table.specs.declared.causes.Verdict.{Verdict}
 use Rattle.table.specs.declared.causes.Verdict.the-variants.{Accepted}
-use Rattle.rows.proofs.Rows.{rows-length, in-rows}
+use Rattle.rows.proofs.Rows.{formed-by, in-rows, rows-length}
 use Rattle.table.proofs.TypedRows.{plain-typed, row-no-clash}
-use Rattle.table.proofs.Trying.{formed-by, shallow-by}
+use Rattle.table.proofs.Trying.{shallow-by}
 
 module _ (t : List ℕ) (e : patternFault t ≡ none) where
-  no-causes : (whole 11 (badLength t) ≡ none) × (tableFault (rowsOf t) ≡ none)
+  pub no-causes : (whole 11 (badLength t) ≡ none) × (tableFault (rowsOf t) ≡ none)
   unfolding patternFault
   no-causes = first-none (whole 11 (badLength t)) (tableFault (rowsOf t)) e
 
@@ -53,8 +53,8 @@ module _ (t : List ℕ) (e : patternFault t ≡ none) where
   formed : Formed t
   formed = formed-by t (row-causes .0)
 
-  checked : Checked t
-  checked = record { long = long; last = record { stands = record { room = omega (arith, long); formed = formed }; shallow = shallow-by t formed (row-causes .1 .0) }; no-fault = e }
+  pub accepted-checked : Checked t
+  accepted-checked = record { long = long; last = record { stands = record { room = omega (arith, long); formed = formed }; shallow = shallow-by t formed (row-causes .1 .0) }; no-fault = e }
 
   -- where all is accepted, typing that leaves conditions aside is typing, in every row
   plain-in : (i : ℕ) → i < length (rowsOf t) → (y : ℕ) → plainAt t i y ≡ typeOf (asPattern (itemAt (rowsOf t) i)) y
@@ -93,4 +93,4 @@ accepted-pattern t k = table-accepted (rowsOf t) (omega (arith, rows-length t, l
 
 pub checked-by : (t : List ℕ) (v : Verdict) → causeOf v ≡ patternFault t → v ≡ Accepted → Checked t
 unfolding causeOf
-checked-by t v q e = checked t (sym q ∙ ap causeOf e)
+checked-by t v q e = accepted-checked t (sym q ∙ ap causeOf e)
