@@ -1,9 +1,11 @@
-// Sets of numbers below 256, by value, as masks over four words; and masks of one word.
+// Sets of numbers below 256, by value, as masks over four words; and masks of one word. Each function promises what the set of the
+// result has, as a function of the sets of its arguments.
 ghost use mathlib.Core.Path.{_≡_};
 ghost use mathlib.Core.Bool.{cond};
 ghost use Prim.Native.Nat.{_-_};
 ghost use Rattle.bits.specs.Sets.{bit, setOf, none, only, below, unite, meet, minus, differ, up, insert, remove, Least, Empty, Same};
 
+// 01: used nodes and edges as masks over u64 words. Number k is bit k % 64 of word k / 64.
 pub struct Set {
     pub w: [u64; 4],
 }
@@ -12,12 +14,14 @@ impl Set {
     // One past the greatest number that a set can hold.
     pub const END: usize = 256;
 
+    // The set of nothing.
     pub fn empty() -> Self
         ensures { λ r. ⌜ setOf (r .w) ≡ none ⌝ }
     {
         Set { w: [0; 4] }
     }
 
+    // The set of k alone; of nothing where k is not below 256.
     pub fn single(k: usize) -> Self
         ensures { λ r. ⌜ setOf (r .w) ≡ only 256 k ⌝ }
     {
@@ -47,6 +51,7 @@ impl Set {
         }
     }
 
+    // Whether k is in the set.
     pub fn has(self, k: usize) -> bool
         ensures { λ r. ⌜ r ≡ setOf (self .w) k ⌝ }
     {
@@ -57,18 +62,21 @@ impl Set {
         self.w[i] >> (k % 64) & 1 == 1
     }
 
+    // The set with k, where k is below 256.
     pub fn with(self, k: usize) -> Self
         ensures { λ r. ⌜ setOf (r .w) ≡ insert (setOf (self .w)) k ⌝ }
     {
         self.union(Set::single(k))
     }
 
+    // The set without k.
     pub fn without(self, k: usize) -> Self
         ensures { λ r. ⌜ setOf (r .w) ≡ remove (setOf (self .w)) k ⌝ }
     {
         self.minus(Set::single(k))
     }
 
+    // What is in one of the two.
     pub fn union(self, o: Set) -> Self
         ensures { λ r. ⌜ setOf (r .w) ≡ unite (setOf (self .w)) (setOf (o .w)) ⌝ }
     {
@@ -82,6 +90,7 @@ impl Set {
         }
     }
 
+    // What is in both.
     pub fn meet(self, o: Set) -> Self
         ensures { λ r. ⌜ setOf (r .w) ≡ meet (setOf (self .w)) (setOf (o .w)) ⌝ }
     {
@@ -95,6 +104,7 @@ impl Set {
         }
     }
 
+    // What is in this set and not in the other.
     pub fn minus(self, o: Set) -> Self
         ensures { λ r. ⌜ setOf (r .w) ≡ minus (setOf (self .w)) (setOf (o .w)) ⌝ }
     {
@@ -136,12 +146,14 @@ impl Set {
         }
     }
 
+    // Whether nothing is in the set.
     pub fn is_empty(self) -> bool
         ensures { λ r. ⌜ Empty (setOf (self .w)) r ⌝ }
     {
         self.w[0] | self.w[1] | self.w[2] | self.w[3] == 0
     }
 
+    // Whether the two have the same numbers.
     pub fn same(self, o: Set) -> bool
         ensures { λ r. ⌜ Same (setOf (self .w)) (setOf (o .w)) r ⌝ }
     {
@@ -209,6 +221,7 @@ pub fn low(n: usize) -> u64
     (1 << n) - 1
 }
 
+// What is in one of two masks: the operator itself has no contract about single bits.
 pub fn or(a: u64, b: u64) -> u64
     ensures { λ r. ⌜ bit r ≡ unite (bit a) (bit b) ⌝ }
 {

@@ -8,11 +8,12 @@ use Rattle.meaning.specs.Image.{imageFault}
 use Rattle.promises.specs.Goals.{baseListing}
 use Rattle.search.specs.Classes.{Dead}
 
--- 65535 is no bound
+-- no record has more edges than r; 65535 is no bound
 pub record GreatestLength (t : List ℕ) (r : ℕ) : Type 0 where
   pub small : r ≤ 65535
   pub dead : (image : List ℕ) → imageFault image ≡ none → r < 65535 → (b : Base) (n : ℕ) → r < n → Dead (n ∷ []) (baseListing image t b)
 
+-- no record has fewer edges than r
 pub record LeastLength (t : List ℕ) (r : ℕ) : Type 0 where
   pub small : r ≤ 65535
   pub dead : (image : List ℕ) → imageFault image ≡ none → (b : Base) (n : ℕ) → n < r → Dead (n ∷ []) (baseListing image t b)

@@ -6,6 +6,7 @@ use rows::row_at;
 ghost use Rattle.rows.specs.Faults.{Stands};
 ghost use Rattle.bounds.specs.Rows.{Fewest};
 
+// The least number for the row's pattern.
 pub fn least(row: usize, pat: &[u16]) -> usize
     requires { ⌜ Stands (now pat) row ⌝ }
     ensures { λ r. ⌜ Fewest (now (pat .entry)) row r ⌝ }

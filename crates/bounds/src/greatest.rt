@@ -22,6 +22,7 @@ fn repeated(n: usize, a: usize) -> usize
     product(n, a)
 }
 
+// The greatest number for the row's pattern.
 pub fn most(row: usize, pat: &[u16]) -> usize
     requires { ⌜ Stands (now pat) row ⌝ }
     ensures { λ r. ⌜ Most (now (pat .entry)) row r ⌝ }

@@ -1,4 +1,4 @@
-// The least and the greatest number of edges of a match, by the table alone.
+// The least and the greatest number of edges of a match, by the table alone: no answer has fewer or more.
 mod fewest;
 mod greatest;
 mod lengths;

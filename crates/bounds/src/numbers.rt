@@ -2,6 +2,7 @@
 ghost use Prim.Native.Nat.{_≤_, _+_, _*_};
 ghost use Rattle.bounds.specs.Numbers.{Capped, Greater, Smaller};
 
+// Any number from 65535 on.
 pub const END: usize = 65535;
 
 // The number, or END if it is greater.
@@ -14,6 +15,7 @@ fn capped(x: usize) -> usize
     x
 }
 
+// The greater of two.
 pub fn greater(a: usize, b: usize) -> usize
     requires { ⌜ (a ≤ 65535) × (b ≤ 65535) ⌝ }
     ensures { λ r. ⌜ Greater a b r ⌝ }
@@ -21,6 +23,7 @@ pub fn greater(a: usize, b: usize) -> usize
     if a <= b { b } else { a }
 }
 
+// The smaller of two.
 pub fn smaller(a: usize, b: usize) -> usize
     requires { ⌜ (a ≤ 65535) × (b ≤ 65535) ⌝ }
     ensures { λ r. ⌜ Smaller a b r ⌝ }
@@ -28,6 +31,7 @@ pub fn smaller(a: usize, b: usize) -> usize
     if a <= b { a } else { b }
 }
 
+// The edges of two matches.
 pub fn sum(a: usize, b: usize) -> usize
     requires { ⌜ (a ≤ 65535) × (b ≤ 65535) ⌝ }
     ensures { λ r. ⌜ Capped (a + b) r ⌝ }
@@ -35,6 +39,7 @@ pub fn sum(a: usize, b: usize) -> usize
     capped(a + b)
 }
 
+// The edges of n matches.
 pub fn product(n: usize, a: usize) -> usize
     requires { ⌜ (n ≤ 65535) × (a ≤ 65535) ⌝ }
     ensures { λ r. ⌜ Capped (n * a) r ⌝ }

@@ -23,6 +23,7 @@ noSlot = record { binding = Unknown }
 unfoldable pub boundOf : Bound → ℕ → Option Element
 boundOf b x = bindingOf (getD (b .slots) x noSlot .binding)
 
+-- nothing is known
 pub record Unbound (b : Bound) : Type 0 where
   pub is : (x : ℕ) → boundOf b x ≡ none
 

@@ -19,14 +19,17 @@ pub record Codes (code : ℕ) (f : Found) : Type 0 where
   pub other : (code ≡ 1 → ⊥) → (code ≡ 2 → ⊥) → (w : ℕ) → elementOf f w ≡ none
 
 -- ------------------------------------------------------------------ answers
+-- r is the element that the word w is
 pub record BindsWord (code w : ℕ) (r : Binding) : Type 0 where
   pub is : (f : Found) → Codes code f → bindingOf r ≡ elementOf f w
 
+-- r is the element of the value at place, where its word is known
 pub record BindsAt (ks : List ℕ) (code place : ℕ) (r : Binding) : Type 0 where
   pub is : (f : Found) → Codes code f → bindingOf r ≡ elementAt f (firstKnown (viewAt ks place))
 
 abbrev pub viewsAt : List ℕ → List ℕ → View
 viewsAt ks places x = viewAt ks (getD places x 0)
 
+-- r has the element of each variable whose word is known
 pub record BindsWords (ks types places : List ℕ) (r : Bound) : Type 0 where
   pub is : (f : ℕ → Found) → ((x : ℕ) → 1 ≤ x → x < 9 → Codes (getD types x 0) (f x)) → Binds r f (viewsAt ks places)

@@ -4,11 +4,13 @@ ghost use mathlib.Core.Path.{_≡_};
 ghost use Prim.Native.Nat.{_<_};
 ghost use Rattle.conditions.specs.Bound.{bindingOf, boundOf, Unbound, Rebound};
 
+// What is known of a variable's element.
 pub enum Binding {
     Unknown,
     To(Element),
 }
 
+// A binding in a struct, since an array of enums is not had in a struct.
 pub struct Slot {
     pub binding: Binding,
 }
@@ -19,6 +21,7 @@ pub struct Bound {
 }
 
 impl Bound {
+    // Nothing is known.
     pub fn unknown() -> Self
         ensures { λ r. ⌜ Unbound r ⌝ }
     {
@@ -28,6 +31,7 @@ impl Bound {
         Bound { slots: [s; 9] }
     }
 
+    // What is known of x.
     pub fn of(self, x: usize) -> Binding
         requires { ⌜ x < 9 ⌝ }
         ensures { λ r. ⌜ bindingOf r ≡ boundOf self x ⌝ }
@@ -36,6 +40,7 @@ impl Bound {
         s.binding
     }
 
+    // The same but for x.
     pub fn with(self, x: usize, binding: Binding) -> Self
         requires { ⌜ x < 9 ⌝ }
         ensures { λ r. ⌜ Rebound self x binding r ⌝ }

@@ -12,25 +12,26 @@ ghost use Rattle.image.specs.Sections.{Checked};
 ghost use Rattle.rows.specs.Faults.{Stands};
 ghost use Rattle.conditions.specs.Evaluates.{Evaluates};
 
-pub fn condition(bytes: &[u8], s: Sections, t: &[u16], row: usize, b: Bound) -> Truth
-    requires { ⌜ Checked (now bytes) s ⌝ }
-    requires { ⌜ Stands (now t) row ⌝ }
-    ensures { λ r. ⌜ Evaluates (now (bytes .entry)) (now (t .entry)) row b r ⌝ }
+// The truth of the row's condition, open where it hangs on an element that is not known.
+pub fn condition(image: &[u8], s: Sections, pat: &[u16], row: usize, b: Bound) -> Truth
+    requires { ⌜ Checked (now image) s ⌝ }
+    requires { ⌜ Stands (now pat) row ⌝ }
+    ensures { λ r. ⌜ Evaluates (now (image .entry)) (now (pat .entry)) row b r ⌝ }
 {
-    let r = row_at(t, row);
+    let r = row_at(pat, row);
     let kind = r.kind;
     match kind {
-        16 => equal_constant(bytes, s, b.of(r.p), r.q as u16, r.r as u16),
-        17 => equal_properties(bytes, s, b.of(r.p), r.q as u16, b.of(r.r), r.s as u16),
+        16 => equal_constant(image, s, b.of(r.p), r.q as u16, r.r as u16),
+        17 => equal_properties(image, s, b.of(r.p), r.q as u16, b.of(r.r), r.s as u16),
         18 => conjoined(
-            condition(bytes, s, t, r.p, b),
-            condition(bytes, s, t, r.q, b),
+            condition(image, s, pat, r.p, b),
+            condition(image, s, pat, r.q, b),
         ),
         19 => disjoined(
-            condition(bytes, s, t, r.p, b),
-            condition(bytes, s, t, r.q, b),
+            condition(image, s, pat, r.p, b),
+            condition(image, s, pat, r.q, b),
         ),
-        20 => negated(condition(bytes, s, t, r.p, b)),
+        20 => negated(condition(image, s, pat, r.p, b)),
         _ => Truth::Open,
     }
 }

@@ -12,8 +12,10 @@ ghost use Rattle.conditions.specs.Known.{BindsAt, BindsWord, BindsWords}
 // The numbers of the two types whose values are one element.
 const NODE: u64 = 1;
 
+// Edge.
 const EDGE: u64 = 2;
 
+// The element that a word is, for a variable of the type.
 fn binding_of(code: u64, w: u16) -> Binding
     ensures { λ r. ⌜ BindsWord code w r ⌝ }
 {
@@ -35,6 +37,7 @@ fn binding_at(rec: &[u16], known: usize, code: u64, place: usize) -> Binding
     Binding::Unknown
 }
 
+// The type of x.
 fn type_of(types: &[u64], x: usize) -> u64
     requires { ⌜ x < length (now types) ⌝ }
     ensures { λ r. ⌜ r ≡ getD (now (types .entry)) x 0 ⌝ }
@@ -42,6 +45,7 @@ fn type_of(types: &[u64], x: usize) -> u64
     types[x]
 }
 
+// The place of the value of x.
 fn place_of(places: [u16; 9], x: usize) -> usize
     requires { ⌜ x < 9 ⌝ }
     ensures { λ r. ⌜ r ≡ getD places x 0 ⌝ }

@@ -1,4 +1,5 @@
-// Conditions of a pattern table while some elements are not known yet: each is true, false, or open.
+// Conditions of a pattern table while some elements are not known yet: each is true, false, or open, as the model has it; with every
+// element known it is the condition's truth.
 mod bound;
 mod evaluate;
 mod known;

@@ -15,19 +15,21 @@ ghost use Rattle.conditions.specs.Bound.{bindingOf};
 ghost use Rattle.conditions.specs.Property.{knownOf};
 ghost use Rattle.conditions.specs.Truth.{truthOf};
 
+// A property's value as far as it is known.
 pub enum Property {
     Open,
     Absent,
     Found(u16),
 }
 
-fn property_at(bytes: &[u8], s: Sections, x: Binding, key: u16) -> Property
-    requires { ⌜ Checked (now bytes) s ⌝ }
-    ensures { λ r. ⌜ knownOf r ≡ propertyAt (graphOf (now (bytes .entry))) (bindingOf x) key ⌝ }
+// The property of an element that may not be known.
+fn property_at(image: &[u8], s: Sections, x: Binding, key: u16) -> Property
+    requires { ⌜ Checked (now image) s ⌝ }
+    ensures { λ r. ⌜ knownOf r ≡ propertyAt (graphOf (now (image .entry))) (bindingOf x) key ⌝ }
 {
     match x {
         Binding::Unknown => Property::Open,
-        Binding::To(e) => match image::property(bytes, s, e, key) {
+        Binding::To(e) => match image::property(image, s, e, key) {
             Value::Found(w) => Property::Found(w),
             Value::Absent => Property::Absent,
         },
@@ -45,6 +47,7 @@ fn equals_value(a: Property, w: u16) -> Truth
     }
 }
 
+// 01: equality holds if both sides are defined and equal.
 fn equal(a: Property, b: Property) -> Truth
     ensures { λ r. ⌜ truthOf r ≡ equal3 (knownOf a) (knownOf b) ⌝ }
 {
@@ -59,25 +62,27 @@ fn equal(a: Property, b: Property) -> Truth
     }
 }
 
-pub fn equal_constant(bytes: &[u8], s: Sections, x: Binding, key: u16, w: u16) -> Truth
-    requires { ⌜ Checked (now bytes) s ⌝ }
-    ensures { λ r. ⌜ truthOf r ≡ equal3 (propertyAt (graphOf (now (bytes .entry))) (bindingOf x) key) (some (some w)) ⌝ }
+// Kind 16.
+pub fn equal_constant(image: &[u8], s: Sections, x: Binding, key: u16, w: u16) -> Truth
+    requires { ⌜ Checked (now image) s ⌝ }
+    ensures { λ r. ⌜ truthOf r ≡ equal3 (propertyAt (graphOf (now (image .entry))) (bindingOf x) key) (some (some w)) ⌝ }
 {
-    equals_value(property_at(bytes, s, x, key), w)
+    equals_value(property_at(image, s, x, key), w)
 }
 
+// Kind 17.
 pub fn equal_properties(
-    bytes: &[u8],
+    image: &[u8],
     s: Sections,
     x: Binding,
     key: u16,
     y: Binding,
     other: u16,
 ) -> Truth
-    requires { ⌜ Checked (now bytes) s ⌝ }
-    ensures { λ r. ⌜ truthOf r ≡ equal3 (propertyAt (graphOf (now (bytes .entry))) (bindingOf x) key) (propertyAt (graphOf (now (bytes .entry))) (bindingOf y) other) ⌝ }
+    requires { ⌜ Checked (now image) s ⌝ }
+    ensures { λ r. ⌜ truthOf r ≡ equal3 (propertyAt (graphOf (now (image .entry))) (bindingOf x) key) (propertyAt (graphOf (now (image .entry))) (bindingOf y) other) ⌝ }
 {
-    let a = property_at(bytes, s, x, key);
-    let b = property_at(bytes, s, y, other);
+    let a = property_at(image, s, x, key);
+    let b = property_at(image, s, y, other);
     equal(a, b)
 }

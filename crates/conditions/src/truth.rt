@@ -4,18 +4,21 @@ ghost use mathlib.Core.Option.{some};
 ghost use Rattle.matcher.specs.Conditions.{and3, mayHold, not3, or3};
 ghost use Rattle.conditions.specs.Truth.{truthOf};
 
+// False, true, or open.
 pub enum Truth {
     No,
     Yes,
     Open,
 }
 
+// A truth that is known.
 pub fn truth_of(b: bool) -> Truth
     ensures { λ r. ⌜ truthOf r ≡ some b ⌝ }
 {
     if b { Truth::Yes } else { Truth::No }
 }
 
+// Kind 20: an open one stays open.
 pub fn negated(a: Truth) -> Truth
     ensures { λ r. ⌜ truthOf r ≡ not3 (truthOf a) ⌝ }
 {
@@ -41,6 +44,7 @@ pub fn conjoined(a: Truth, b: Truth) -> Truth
     }
 }
 
+// One true part decides, whatever the other is.
 pub fn disjoined(a: Truth, b: Truth) -> Truth
     ensures { λ r. ⌜ truthOf r ≡ or3 (truthOf a) (truthOf b) ⌝ }
 {

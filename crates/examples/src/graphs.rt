@@ -3,52 +3,55 @@ ghost use mathlib.Core.Path.{_≡_};
 ghost use Prim.Native.Nat.{_+_, _*_, _≤_};
 ghost use lib.ListN.{length};
 
-// T: nodes 10, 20, 30; edges (0,1,1) (1,2,1) (0,2,0).
+// The image of T: directory, nodes 10, 20, 30, edges (0,1,1) (1,2,1) (0,2,0).
+const T: [u8; 40] = [
+    16,
+    0,
+    6,
+    0,
+    22,
+    0,
+    18,
+    0,
+    40,
+    0,
+    0,
+    0,
+    40,
+    0,
+    0,
+    0,
+    10,
+    0,
+    20,
+    0,
+    30,
+    0,
+    0,
+    0,
+    1,
+    0,
+    1,
+    0,
+    1,
+    0,
+    2,
+    0,
+    1,
+    0,
+    0,
+    0,
+    2,
+    0,
+    0,
+    0,
+];
+
+// T, by value.
 pub fn t() -> [u8; 40]
     ensures { λ r. ⌜ 40 ≡ length r ⌝ }
 {
-    [
-        16,
-        0,
-        6,
-        0,
-        22,
-        0,
-        18,
-        0,
-        40,
-        0,
-        0,
-        0,
-        40,
-        0,
-        0,
-        0,
-        10,
-        0,
-        20,
-        0,
-        30,
-        0,
-        0,
-        0,
-        1,
-        0,
-        1,
-        0,
-        1,
-        0,
-        2,
-        0,
-        1,
-        0,
-        0,
-        0,
-        2,
-        0,
-        0,
-        0,
-    ]
+    T
 }
 
 // No nodes.
@@ -58,6 +61,7 @@ pub fn nothing() -> [u8; 16]
     [16, 0, 0, 0, 16, 0, 0, 0, 16, 0, 0, 0, 16, 0, 0, 0]
 }
 
+// A number of 16 bits, low byte first.
 fn put_number(image: &mut [u8; 418], at: usize, number: usize)
     requires { ⌜ (at + 2 ≤ 418) × (number ≤ 65535) ⌝ }
 {

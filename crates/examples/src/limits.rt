@@ -13,6 +13,7 @@ fn step_on(image: &[u8], nodes: usize)
     printing::print_listing(&image[0..end], &pattern, 1);
 }
 
+// Makes the image, then asks.
 fn put_and_step(image: &mut [u8; 418], count: usize)
     requires { ⌜ count ≤ 201 ⌝ }
 {
@@ -20,6 +21,7 @@ fn put_and_step(image: &mut [u8; 418], count: usize)
     step_on(image, count);
 }
 
+// An image of so many nodes, which has room for 201.
 fn on_nodes(count: usize)
     requires { ⌜ count ≤ 201 ⌝ }
 {
@@ -27,6 +29,7 @@ fn on_nodes(count: usize)
     put_and_step(&mut image, count);
 }
 
+// 200 nodes pass, 201 give 3.
 pub fn nodes() {
     printing::print_text(b"200 nodes, P\n");
     on_nodes(200);
@@ -34,6 +37,7 @@ pub fn nodes() {
     on_nodes(201);
 }
 
+// T under the first rows of a table.
 fn first_rows(pattern: &[u16], count: usize)
     requires { ⌜ (count ≤ 65) × (5 * count ≤ length (now pattern)) ⌝ }
 {
@@ -42,6 +46,7 @@ fn first_rows(pattern: &[u16], count: usize)
     printing::print_listing(&image, &pattern[0..end], 1);
 }
 
+// Makes the table, then asks.
 fn put_and_ask(pattern: &mut [u16; 325], count: usize)
     requires { ⌜ (4 ≤ count) × (count ≤ 65) ⌝ }
 {
@@ -49,6 +54,7 @@ fn put_and_ask(pattern: &mut [u16; 325], count: usize)
     first_rows(pattern, count);
 }
 
+// A table of so many rows, which has room for 65.
 fn of_rows(count: usize)
     requires { ⌜ (4 ≤ count) × (count ≤ 65) ⌝ }
 {
@@ -56,6 +62,7 @@ fn of_rows(count: usize)
     put_and_ask(&mut pattern, count);
 }
 
+// 64 rows pass, 65 give 11.
 pub fn rows() {
     printing::print_text(b"T, 64 rows\n");
     of_rows(64);
@@ -63,12 +70,14 @@ pub fn rows() {
     of_rows(65);
 }
 
+// T under a node with the variable.
 fn of_variable(variable: u16) {
     let image = graphs::t();
     let pattern = patterns::node(variable);
     printing::print_listing(&image, &pattern, 1);
 }
 
+// Variable 8 passes, 9 gives 12.
 pub fn variables() {
     printing::print_text(b"T, variable 8\n");
     of_variable(8);

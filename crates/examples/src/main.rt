@@ -17,6 +17,7 @@ fn on_nothing(pattern: &[u16]) {
     printing::print_listing(&image, pattern, 1);
 }
 
+// Without nodes each accepted pattern gives done, count 0.
 fn empty() {
     printing::print_text(b"no nodes, P\n");
     let steps = patterns::p();
@@ -29,6 +30,7 @@ fn empty() {
     on_nothing(&eighth);
 }
 
+// The examples in the order of 01.
 fn main() {
     shortest();
     limits::nodes();

@@ -10,6 +10,7 @@ pub fn p() -> [u16; 10]
     [2, 1, 0, 0, 0, 8, 0, 0, 1, 65535]
 }
 
+// Forward or undirected steps, one or more.
 pub fn forward_or_undirected() -> [u16; 20]
     ensures { λ r. ⌜ 20 ≡ length r ⌝ }
 {
@@ -44,6 +45,7 @@ pub fn node(variable: u16) -> [u16; 5]
     [1, variable, 0, 0, 0]
 }
 
+// A row whose last number is 0.
 fn put_row(pattern: &mut [u16; 325], row: usize, kind: u16, p: u16, q: u16, r: u16)
     requires { ⌜ row < 65 ⌝ }
 {

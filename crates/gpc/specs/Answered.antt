@@ -27,6 +27,7 @@ pub record Begun (image t : List ℕ) (n : ℕ) (work report₀ report : List �
 pub record RestKept (work₀ work : List ℕ) : Type 0 where
   pub is : drop 20000 work ≡ drop 20000 work₀
 
+-- yes or no is reported, and the first 20,000 words of work are 0
 pub record JudgeReported (image t : List ℕ) (n : ℕ) (rec work₀ report₀ work report : List ℕ) : Type 0 where
   pub work-is : work ≡ cleared 20000 work₀
   pub report-is : report ≡ over (reportBytes 0 0 (bit (judge image t n rec)) 0 0 0) report₀

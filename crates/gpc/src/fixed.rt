@@ -24,6 +24,7 @@ fn image_verdict(image: &[u8]) -> Verdict
     }
 }
 
+// 21.
 fn restrictor_verdict(restrictor: u64) -> Verdict
     ensures { λ r. ⌜ causeOf r ≡ whole 21 (not (leb 1 restrictor && leb restrictor 4)) ⌝ }
 {
@@ -36,6 +37,7 @@ fn restrictor_verdict(restrictor: u64) -> Verdict
     Verdict::Accepted
 }
 
+// 22.
 fn work_verdict(work: &[u16]) -> Verdict
     ensures { λ r. ⌜ causeOf r ≡ whole 22 (ltb (length (now (work .entry))) 20000) ⌝ }
 {
@@ -55,6 +57,7 @@ fn first(a: Verdict, b: Verdict) -> Verdict
     }
 }
 
+// The causes of the judge and of the page through 22, in the order of 01.
 pub fn first_cause(image: &[u8], pattern: &[u16], restrictor: u64, work: &[u16]) -> Verdict
     ensures { λ r. ⌜ FirstCause (now (image .entry)) (now (pattern .entry)) restrictor (now (work .entry)) r ⌝ }
 {

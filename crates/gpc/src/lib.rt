@@ -1,4 +1,5 @@
-// The operations for C: nothing but calls of the proved library and the report. Each promise holds for all that is lent.
+// The operations for C: nothing but calls of the proved library and the report. Each promise is one equation with a definition of
+// `meaning`, and holds for all that is lent.
 mod fixed;
 
 use fixed::first_cause;
@@ -22,6 +23,7 @@ fn is_short(report: &[u8]) -> bool
     report.len() < 64
 }
 
+// 01, 'Read an image'.
 #[no_mangle]
 pub extern "C" fn gpc_read_image(image: &[u8], report: &mut [u8]) -> u64
     ensures { λ r. ⌜ _≡_ {A = ReadLeft} (record { result = r; report = now (report .exit) }) (readImage (now (image .entry)) (now (report .entry))) ⌝ }
@@ -34,6 +36,7 @@ pub extern "C" fn gpc_read_image(image: &[u8], report: &mut [u8]) -> u64
     1
 }
 
+// 01, 'Check a pattern'.
 #[no_mangle]
 pub extern "C" fn gpc_check_pattern(pattern: &[u16], types: &mut [u16], report: &mut [u8]) -> u64
     ensures { λ r. ⌜ _≡_ {A = CheckLeft} (record { result = r; types = now (types .exit); report = now (report .exit) }) (checkPattern (now (pattern .entry)) (now (types .entry)) (now (report .entry))) ⌝ }
@@ -104,6 +107,7 @@ fn report_verdict(
     words::write_report(report, 0, 0, verdict_number(yes), 0, 0, 0);
 }
 
+// 01, 'Judge a record'.
 #[no_mangle]
 pub extern "C" fn gpc_judge_record(
     image: &[u8],
@@ -123,6 +127,7 @@ pub extern "C" fn gpc_judge_record(
     1
 }
 
+// 01, 'Fill a page'.
 #[no_mangle]
 pub extern "C" fn gpc_fill_page(
     image: &[u8],

@@ -1,6 +1,6 @@
 -- The order of rows and of pairs.
 use mathlib.Core.Path.{_≡_, refl}
-use mathlib.Core.Bool.{Bool, true, false, _&&_, _||_}
+use mathlib.Core.Bool.{Bool, _&&_, _||_, false, or-false, true}
 use mathlib.Core.Logic.{_⊎_, inl, inr}
 use Prim.Native.Nat.{ℕ, zero, suc, _-_, _<_}
 use native.Mathlib.Omega.{arith}
@@ -20,10 +20,6 @@ later-rises f zero h = absurd (h refl)
 later-rises f (suc i) h =
     let e : suc i - 1 ≡ i = omega arith in
     rw e
-
-or-false : (x : Bool) → (x || false) ≡ x
-or-false true = refl
-or-false false = refl
 
 pub same-first : (a b c d : ℕ) → a ≡ c → ltb b d ≡ pairLess a b c d
 unfolding pairLess

@@ -12,6 +12,7 @@ use Rattle.image.specs.declared.lowest.Section.the-variants.{Nodes, Edge
 use Rattle.image.specs.Sections.{Laid}
 use Rattle.image.specs.Faults.{rowsIn, rowCount, badRow}
 
+-- no row below i of the n rows is faulty
 pub record Scanning (x : Section) (b : List ℕ) (n i : ℕ) : Type 0 where
   pub all : n ≡ rowCount x b
   pub few : n < 65536

@@ -15,6 +15,7 @@ pub record Placed (b : List ℕ) (k : ℕ) (e : Extent) : Type 0 where
   pub at-small : e .at < 65536
   pub bytes-small : e .bytes < 65536
 
+-- the directory as it stands in the bytes
 pub record Listed (b : List ℕ) (d : Directory) : Type 0 where
   pub nodes : Placed b 0 (d .nodes)
   pub edges : Placed b 1 (d .edges)

@@ -5,6 +5,7 @@ ghost use Prim.Native.Nat.{_<_};
 ghost use Rattle.meaning.specs.Image.{nodeCell, edgeCell, labelCell, propertyCell};
 ghost use Rattle.image.specs.Sections.{Laid};
 
+// 01: the outer number of node row i.
 pub fn node_cell(bytes: &[u8], s: Sections, i: usize) -> u16
     requires { ⌜ Laid (now bytes) s ⌝ }
     requires { ⌜ i < 65536 ⌝ }
@@ -13,6 +14,7 @@ pub fn node_cell(bytes: &[u8], s: Sections, i: usize) -> u16
     words::number_at(bytes, s.nodes.at + 2 * i)
 }
 
+// Number j of edge row i: first end, second end, direction.
 pub fn edge_cell(bytes: &[u8], s: Sections, i: usize, j: usize) -> u16
     requires { ⌜ Laid (now bytes) s ⌝ }
     requires { ⌜ i < 65536 ⌝ }
@@ -22,6 +24,7 @@ pub fn edge_cell(bytes: &[u8], s: Sections, i: usize, j: usize) -> u16
     words::number_at(bytes, s.edges.at + (6 * i + 2 * j))
 }
 
+// Number j of label row i: element, label.
 pub fn label_cell(bytes: &[u8], s: Sections, i: usize, j: usize) -> u16
     requires { ⌜ Laid (now bytes) s ⌝ }
     requires { ⌜ i < 65536 ⌝ }
@@ -31,6 +34,7 @@ pub fn label_cell(bytes: &[u8], s: Sections, i: usize, j: usize) -> u16
     words::number_at(bytes, s.labels.at + (4 * i + 2 * j))
 }
 
+// Number j of property row i: element, key, value.
 pub fn property_cell(bytes: &[u8], s: Sections, i: usize, j: usize) -> u16
     requires { ⌜ Laid (now bytes) s ⌝ }
     requires { ⌜ i < 65536 ⌝ }

@@ -10,6 +10,7 @@ pub struct Extent {
     pub bytes: usize,
 }
 
+// 01: the four pairs of offset and length, in the order of the sections.
 pub struct Directory {
     pub nodes: Extent,
     pub edges: Extent,
@@ -17,6 +18,7 @@ pub struct Directory {
     pub properties: Extent,
 }
 
+// Pair k of the directory.
 fn section(bytes: &[u8], k: usize) -> Extent
     requires { ⌜ k < 4 ⌝ }
     ensures { λ r. ⌜ Placed (now (bytes .entry)) k r ⌝ }
@@ -27,6 +29,7 @@ fn section(bytes: &[u8], k: usize) -> Extent
     }
 }
 
+// All four pairs; bytes that are not there count as 0.
 pub fn directory_of(bytes: &[u8]) -> Directory
     ensures { λ r. ⌜ Listed (now (bytes .entry)) r ⌝ }
 {
@@ -63,6 +66,7 @@ fn sections_meet(d: Directory, length: usize) -> bool
     length == end
 }
 
+// Each section is whole rows of its own width.
 fn whole_rows(d: Directory) -> bool
     ensures { λ r. ⌜ r ≡ whole d ⌝ }
 {
@@ -78,6 +82,7 @@ fn whole_rows(d: Directory) -> bool
     d.properties.bytes % 6 == 0
 }
 
+// No cause for 2.
 pub fn good_directory(bytes: &[u8]) -> bool
     ensures { λ r. ⌜ r ≡ goodDirectory (now (bytes .entry)) ⌝ }
 {

@@ -9,6 +9,7 @@ ghost use Prim.Native.Nat.{_<_};
 ghost use Rattle.meaning.specs.Image.{pairLess, badNode, badEdge, badLabel, badProperty};
 ghost use Rattle.image.specs.Sections.{Laid};
 
+// 4: the outer number does not rise.
 pub fn bad_node(bytes: &[u8], s: Sections, i: usize) -> bool
     requires { ⌜ Laid (now bytes) s ⌝ }
     requires { ⌜ i < 65536 ⌝ }
@@ -20,6 +21,7 @@ pub fn bad_node(bytes: &[u8], s: Sections, i: usize) -> bool
     node_cell(bytes, s, i) <= node_cell(bytes, s, i - 1)
 }
 
+// 5: an end is no node, the direction is neither 0 nor 1, or an undirected edge has its first end above its second.
 pub fn bad_edge(bytes: &[u8], s: Sections, i: usize) -> bool
     requires { ⌜ Laid (now bytes) s ⌝ }
     requires { ⌜ i < 65536 ⌝ }
@@ -53,6 +55,7 @@ pub fn pair_less(a: usize, b: usize, c: usize, d: usize) -> bool
     a < c
 }
 
+// 6: no element, the label 0, or a pair that does not rise.
 pub fn bad_label(bytes: &[u8], s: Sections, i: usize) -> bool
     requires { ⌜ Laid (now bytes) s ⌝ }
     requires { ⌜ i < 65536 ⌝ }
@@ -77,6 +80,7 @@ pub fn bad_label(bytes: &[u8], s: Sections, i: usize) -> bool
     )
 }
 
+// 7: no element, or a pair of element and key that does not rise.
 pub fn bad_property(bytes: &[u8], s: Sections, i: usize) -> bool
     requires { ⌜ Laid (now bytes) s ⌝ }
     requires { ⌜ i < 65536 ⌝ }

@@ -3,10 +3,13 @@ ghost use mathlib.Core.Path.{_≡_};
 ghost use Prim.Native.Nat.{_<_};
 ghost use Rattle.image.specs.Elements.{numberAmong};
 
+// A node, by its place among the node rows.
 pub struct NodeId(pub u16);
 
+// An edge, by its place among the edge rows.
 pub struct EdgeId(pub u16);
 
+// What has labels and properties.
 pub enum Element {
     Node(NodeId),
     Edge(EdgeId),

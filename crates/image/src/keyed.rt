@@ -8,11 +8,13 @@ ghost use Prim.Native.Nat.{_<_};
 ghost use Rattle.image.specs.Sections.{Laid, Checked};
 ghost use Rattle.image.specs.Keyed.{keysIn, keyCount, keyLess, LowerBound};
 
+// The sections whose rows are sorted by a pair: element, then label or key.
 pub enum Keyed {
     Labels,
     Properties,
 }
 
+// The number of rows of the section.
 fn key_count(s: Sections, keyed: Keyed) -> usize
     ensures { λ r. ⌜ r ≡ keysIn s keyed ⌝ }
 {

@@ -1,4 +1,5 @@
-// The graph image: read and checked, and the few look-ups by which everything else asks it.
+// The graph image: read and checked (1 to 7 of 01), and the few look-ups by which everything else asks it. What they answer is what
+// the graph of the image says, for an image that was accepted.
 mod cells;
 mod directory;
 mod faults;

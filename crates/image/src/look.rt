@@ -17,6 +17,7 @@ ghost use Rattle.image.specs.Sections.{Laid, Checked};
 ghost use Rattle.image.specs.Elements.{elementOf};
 ghost use Rattle.image.specs.Values.{valueOf};
 
+// The first end of an edge.
 pub fn first_end(bytes: &[u8], s: Sections, e: EdgeId) -> NodeId
     requires { ⌜ Laid (now bytes) s ⌝ }
     ensures { λ r. ⌜ r .0 ≡ edgeRow (now (bytes .entry)) (e .0) .first ⌝ }
@@ -24,6 +25,7 @@ pub fn first_end(bytes: &[u8], s: Sections, e: EdgeId) -> NodeId
     NodeId(edge_cell(bytes, s, e.0 as usize, 0))
 }
 
+// The second end of an edge.
 pub fn second_end(bytes: &[u8], s: Sections, e: EdgeId) -> NodeId
     requires { ⌜ Laid (now bytes) s ⌝ }
     ensures { λ r. ⌜ r .0 ≡ edgeRow (now (bytes .entry)) (e .0) .second ⌝ }
@@ -31,6 +33,7 @@ pub fn second_end(bytes: &[u8], s: Sections, e: EdgeId) -> NodeId
     NodeId(edge_cell(bytes, s, e.0 as usize, 1))
 }
 
+// Whether the edge leads from its first end to its second only.
 pub fn is_directed(bytes: &[u8], s: Sections, e: EdgeId) -> bool
     requires { ⌜ Laid (now bytes) s ⌝ }
     ensures { λ r. ⌜ r ≡ edgeRow (now (bytes .entry)) (e .0) .directed ⌝ }
@@ -38,6 +41,7 @@ pub fn is_directed(bytes: &[u8], s: Sections, e: EdgeId) -> bool
     edge_cell(bytes, s, e.0 as usize, 2) == 1
 }
 
+// Whether the element has the label: by halving, since the rows rise.
 pub fn has_label(bytes: &[u8], s: Sections, x: Element, label: u16) -> bool
     requires { ⌜ Checked (now bytes) s ⌝ }
     ensures { λ r. ⌜ r ≡ graphOf (now (bytes .entry)) .label (elementOf x) label ⌝ }
@@ -64,11 +68,13 @@ pub fn is_labelled(bytes: &[u8], s: Sections, x: Element, label: u16) -> bool
     has_label(bytes, s, x, label)
 }
 
+// The value of a property, where the element has it.
 pub enum Value {
     Found(u16),
     Absent,
 }
 
+// The property of the element under the key, found as a label is.
 pub fn property(bytes: &[u8], s: Sections, x: Element, key: u16) -> Value
     requires { ⌜ Checked (now bytes) s ⌝ }
     ensures { λ r. ⌜ valueOf r ≡ graphOf (now (bytes .entry)) .property (elementOf x) key ⌝ }

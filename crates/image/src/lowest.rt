@@ -10,6 +10,7 @@ ghost use Rattle.meaning.specs.Basics.{lowest};
 ghost use Rattle.image.specs.Sections.{Laid};
 ghost use Rattle.image.specs.Faults.{rowsIn, rowCount, badRow, foundRow};
 
+// The sections of an image, in their order.
 pub enum Section {
     Nodes,
     Edges,
@@ -17,11 +18,13 @@ pub enum Section {
     Properties,
 }
 
+// The lowest faulty row, if there is one.
 pub enum Row {
     At(usize),
     Nothing,
 }
 
+// The number of rows of a section.
 fn row_count(s: Sections, section: Section) -> usize
     ensures { λ r. ⌜ r ≡ rowsIn s section ⌝ }
 {
@@ -33,6 +36,7 @@ fn row_count(s: Sections, section: Section) -> usize
     }
 }
 
+// Whether row i of a section is faulty.
 fn bad_row(bytes: &[u8], s: Sections, section: Section, i: usize) -> bool
     requires { ⌜ Laid (now bytes) s ⌝ }
     requires { ⌜ i < 65536 ⌝ }
@@ -46,6 +50,7 @@ fn bad_row(bytes: &[u8], s: Sections, section: Section, i: usize) -> bool
     }
 }
 
+// The lowest faulty row of a section.
 pub fn lowest_bad(bytes: &[u8], s: Sections, section: Section) -> Row
     requires { ⌜ Laid (now bytes) s ⌝ }
     ensures { λ r. ⌜ foundRow r ≡ lowest (rowCount section (now (bytes .entry))) 0 (badRow section (now (bytes .entry))) ⌝ }

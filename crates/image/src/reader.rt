@@ -58,6 +58,7 @@ impl Verdict {
     }
 }
 
+// 4 to 7: the first section with a faulty row, and its lowest one.
 fn read_rows(bytes: &[u8], s: Sections) -> Verdict
     requires { ⌜ Laid (now bytes) s ⌝ }
     ensures { λ r. ⌜ causeOf r ≡ rowFault (now (bytes .entry)) ⌝ }
@@ -77,6 +78,7 @@ fn read_rows(bytes: &[u8], s: Sections) -> Verdict
     Verdict::Accepted
 }
 
+// The causes 1 to 7, in the order of 01.
 pub fn read(bytes: &[u8]) -> Verdict
     ensures { λ r. ⌜ causeOf r ≡ imageFault (now (bytes .entry)) ⌝ }
 {

@@ -9,6 +9,7 @@ pub struct Rows {
     pub count: usize,
 }
 
+// The rows of each section.
 pub struct Sections {
     pub nodes: Rows,
     pub edges: Rows,
@@ -16,6 +17,7 @@ pub struct Sections {
     pub properties: Rows,
 }
 
+// Where the rows stand, by the directory alone.
 pub fn sections_of(bytes: &[u8]) -> Sections
     ensures { λ r. ⌜ Laid (now (bytes .entry)) r ⌝ }
 {

@@ -1,4 +1,5 @@
-// Whether an answer of the base with a given number of edges leads from one node to another.
+// Whether an answer of the base with a given number of edges leads from one node to another, or to one of some: yes if, and only if,
+// there is one.
 mod pair;
 mod reached;
 

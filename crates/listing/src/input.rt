@@ -19,10 +19,12 @@ fn read(bytes: &mut [u8], n: usize) -> usize
     io::read_full(0, &mut bytes[0..most])
 }
 
+// The third number of the head.
 pub fn restrictor(head: &[u8; 6]) -> u64 {
     words::number_at(head, 4) as u64
 }
 
+// As many bytes as the head says, or as there are.
 pub fn read_image(head: &[u8; 6], image: &mut [u8; 65536]) -> usize
     ensures { λ r. ⌜ Counts r (now (image .exit)) ⌝ }
 {

@@ -1,6 +1,7 @@
-// Prints a listing: standard input holds the image, the pattern and the restrictor.
+// Prints a listing: standard input holds the image, the pattern and the restrictor, as 01 says under 'Examples'.
 mod input;
 
+// Reads all, then prints.
 fn main() {
     let mut head = [0u8; 6];
     io::read_full(0, &mut head);

@@ -1,5 +1,4 @@
 -- What the checker grants: an accepted pattern has no edgeless body, is at most two repetitions deep, and is typed.
--- a test that fails on the eight fails at each
 use mathlib.Core.Path.{_∙_, _≡_, ap, refl, sym}
 use mathlib.Core.List.{List, List·Memᴰ·head, List·Memᴰ·tail, _∷_}
 use mathlib.Core.Option.{none}
@@ -21,6 +20,7 @@ use Rattle.meaning.specs.Pattern.{Pattern, Sound, inVar, nesting}
 use Rattle.meaning.specs.Table.{Item, Row, anyOf, asPattern, condition, fault12, fault13, fault14, fault15, fault16, fine, formAt, isClash, isVariable, itemAt, nil, onPattern, pattern, rowCause, tableFault, tablePattern, untyped}
 use Rattle.meaning.specs.Typing.{Found, absent, clash, typeOf}
 
+-- a test that fails on all fails at each
 any-false : (f : ℕ → Bool) {l : List ℕ} {x : ℕ} → x ∈ l → anyOf l f ≡ false → f x ≡ false
 unfolding opened
 any-false f (List·Memᴰ·head {x = y} {xs = ys} q) e = ap f q ∙ or-false-l (f y) (anyOf ys f) e

@@ -1,5 +1,4 @@
 -- Proposition 9, second half: the assignment of an answer conforms to the schema.
--- a variable with a type is used
 use mathlib.Core.Path.{_∙_, _≡_, ap, refl, sym}
 use mathlib.Core.List.{List, [], _∷_, map}
 use mathlib.Core.Option.{Option, none, some}
@@ -23,6 +22,7 @@ use Rattle.meaning.specs.Meaning.{Meaning, Product}
 use Rattle.meaning.specs.Pattern.{Pattern, Sound, concatenation, conditioned, edge, inCondition, inVar, named, node, repetition, union}
 use Rattle.meaning.specs.Typing.{Edge, Found, Group, Maybe, Node, Ty, Ty-discrete, absent, clash, concatenationTy, conditionedTy, fits, meet, namedTy, opt, repetitionTy, typeOf, typed, unionTy}
 
+-- a variable with a type is used
 used : (π : Pattern) (x : ℕ) {τ : Ty} → typeOf π x ≡ typed τ → inVar π x ≡ true
 unfolding opened
 used π x e = go (inVar π x) refl
@@ -31,7 +31,7 @@ used π x e = go (inVar π x) refl
     go true q = q
     go false q = no-typed-absent (sym e ∙ unused→absent π x q)
 
-count-entries : (x : ℕ) (fs : List Factor) → count (entries x fs) ≡ length fs
+pub count-entries : (x : ℕ) (fs : List Factor) → count (entries x fs) ≡ length fs
 unfolding opened
 count-entries x [] = refl
 count-entries x (f ∷ fs) = ap suc (count-entries x fs)

@@ -13,6 +13,7 @@ use Rattle.meaning.proofs.Causes.{first-none, whole-none}
 use Rattle.meaning.proofs.ImageRead.{Read, image-read}
 use Rattle.meaning.proofs.InGraph.{in-graph}
 use Rattle.meaning.proofs.Listings.{listing-iff, listing-sorted, listing-unique}
+use Rattle.meaning.proofs.Lists.{length-up}
 use Rattle.meaning.proofs.Logic.{all-of, no-true}
 use Rattle.meaning.proofs.Opened.{opened}
 use Rattle.meaning.proofs.Paths.{short}
@@ -86,11 +87,6 @@ module _ (image words : List ℕ) (n : ℕ) (ok : fixedFault image words n ≡ n
   few-nodes : graphOf image .nodes ≤ 200
   unfolding opened
   few-nodes = granted image words n ok .read .few-nodes
-
-  length-up : (m i : ℕ) → length (upFrom m i) ≡ m
-  unfolding opened
-  length-up zero i = refl
-  length-up (suc m) i = ap suc (length-up m (suc i))
 
   few-edges : length (graphOf image .edges) ≤ 200
   unfolding opened

@@ -22,6 +22,7 @@ at-map f zero i e r q = no-some (sym q)
 at-map f (suc n) i zero r q = (omega arith, sym (some-inj q) ∙ ap f (omega arith))
 at-map f (suc n) i (suc e) r q = let h = at-map f n (suc i) e r q in (omega (arith, h .0), h .1 ∙ ap f (omega arith))
 
+-- what an accepted image is: a valid graph within the bounds of 01
 pub record Read (b : List ℕ) : Type 0 where
   pub valid : Valid (graphOf b)
   pub few-nodes : nodeCount b ≤ 200

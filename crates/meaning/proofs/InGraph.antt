@@ -22,6 +22,7 @@ getElem?-some [] i a e = let z : _≡_ {A = ℕ} 0 1 = cc in absurd (omega arith
 getElem?-some (x ∷ xs) zero a e = omega arith
 getElem?-some (x ∷ xs) (suc i) a e = let h : i < length xs = getElem?-some xs i a e in omega arith
 
+-- the edge and both its ends are there
 pub record Ends (G : Graph) (e u v : ℕ) : Type 0 where
   pub at : e < length (G .edges)
   pub low : u < G .nodes
@@ -42,11 +43,16 @@ row-ends undirected r u v n b h =
     either (or-cases (eqb (r .first) u && eqb (r .second) v) (eqb (r .first) v && eqb (r .second) u) (and-r (not (r .directed)) ((eqb (r .first) u && eqb (r .second) v) || (eqb (r .first) v && eqb (r .second) u)) h))
     (ends r u v n b) (λ q. let k = ends r v u n b q in (k .1, k .0))
 
-goes-linked : (G : Graph) (d : Direction) (e u v : ℕ) → goes G d e u v ≡ true → linked G e u v ≡ true
+pub goes-linked : (G : Graph) (d : Direction) (e u v : ℕ) → goes G d e u v ≡ true → linked G e u v ≡ true
 unfolding opened
 goes-linked G forward e u v h = or-l (goes G forward e u v) (goes G backward e u v || goes G undirected e u v) h
 goes-linked G backward e u v h = or-r (goes G forward e u v) (goes G backward e u v || goes G undirected e u v) (or-l (goes G backward e u v) (goes G undirected e u v) h)
 goes-linked G undirected e u v h = or-r (goes G forward e u v) (goes G backward e u v || goes G undirected e u v) (or-r (goes G backward e u v) (goes G undirected e u v) h)
+
+pub src-append : (p q : Walk) → tgt p ≡ src q → src (p · q) ≡ src p
+unfolding opened
+src-append (stop u) q h = sym h
+src-append (step u e p) q h = refl
 
 module _ (G : Graph) (valid : Valid G) where
   pub goes-found : (d : Direction) (e u v : ℕ) → goes G d e u v ≡ true → Ends G e u v
@@ -56,11 +62,6 @@ module _ (G : Graph) (valid : Valid G) where
       go : (o : Option EdgeRow) → getElem? (G .edges) e ≡ o → rowGoes d o u v ≡ true → Ends G e u v
       go none q h = no-false h
       go (some r) q h = let k = row-ends d r u v (G .nodes) (valid e r q) h in record { at = getElem?-some (G .edges) e r q; low = k .0; high = k .1 }
-
-  src-append : (p q : Walk) → tgt p ≡ src q → src (p · q) ≡ src p
-  unfolding opened
-  src-append (stop u) q h = sym h
-  src-append (step u e p) q h = refl
 
   in-append : (p q : Walk) → InGraph G p → InGraph G q → tgt p ≡ src q → InGraph G (p · q)
   unfolding opened

@@ -1,5 +1,6 @@
 pub mod Opened
 pub mod Logic
+pub mod Eight
 pub mod Members
 pub mod Unused
 pub mod Derived

@@ -1,10 +1,12 @@
--- Taking and dropping around the seam of two lists.
-use mathlib.Core.Path.{_∙_, _≡_, ap, sym}
+-- Taking and dropping around the seam of two lists; the length of a run of numbers.
+use mathlib.Core.Path.{_∙_, _≡_, ap, refl, sym}
 use mathlib.Core.List.{List, [], _++_, _∷_}
-use Prim.Native.Nat.{_+_, suc, ℕ}
+use Prim.Native.Nat.{_+_, suc, zero, ℕ}
 use native.Mathlib.Omega.{arith}
 use lib.ListN.{drop, length, take}
 use lib.Seq.{drop-append-seam, take-append-seam}
+use Rattle.meaning.proofs.Opened.{opened}
+use Rattle.meaning.specs.Basics.{upFrom}
 
 module _ {A : Type 0} where
   pub take-front : (n : ℕ) (a b : List A) → length a ≡ n → take n (a ++ b) ≡ a
@@ -13,6 +15,8 @@ module _ {A : Type 0} where
   pub drop-front : (n : ℕ) (a b : List A) → length a ≡ n → drop n (a ++ b) ≡ b
   drop-front n a b e = ap (λ (m : ℕ). drop m (a ++ b)) (sym e) ∙ drop-append-seam a b
 
-  pub drop-past : (a b : List A) (n : ℕ) → drop (length a + n) (a ++ b) ≡ drop n b
-  drop-past [] b n = let e : 0 + n ≡ n = omega arith in ap (λ (m : ℕ). drop m b) e
-  drop-past (x ∷ a) b n = let e : length (x ∷ a) + n ≡ suc (length a + n) = omega arith in ap (λ (m : ℕ). drop m (x ∷ (a ++ b))) e ∙ drop-past a b n
+-- the numbers n, counted from i on
+pub length-up : (n i : ℕ) → length (upFrom n i) ≡ n
+unfolding opened
+length-up zero i = refl
+length-up (suc n) i = ap suc (length-up n (suc i))

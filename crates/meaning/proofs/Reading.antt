@@ -8,8 +8,9 @@ use Prim.Native.Nat.{_+_, _<_, suc, ℕ}
 use native.Mathlib.Omega.{arith}
 use lib.Dec.{eqb}
 use lib.ListN.{drop, getD, length, length-append, take}
+use lib.Seq.{drop-append-add}
 use borrow.Author.Tests.{eqb-true}
-use Rattle.meaning.proofs.Lists.{drop-front, drop-past, take-front}
+use Rattle.meaning.proofs.Lists.{drop-front, take-front}
 use Rattle.meaning.proofs.Opened.{opened}
 use Rattle.meaning.proofs.Size.{length-places, size}
 use Rattle.meaning.proofs.Words.{only-nothing}
@@ -47,7 +48,7 @@ module _ (n m k : ℕ) (hn : n < 65535) (hm : m < 65535) (hk : k < 65535) where
       let j : valueSize τ (drop (pathSize w) w) ≡ length (valueWords v) = ap (valueSize τ) past ∙ f v (e ++ s) (a .0) in
       let size : ℕ = pathSize w + valueSize τ (drop (pathSize w) w) in
       let q : size ≡ length (pathWords p) + length (valueWords v) = omega (arith, i, j) in
-      let rest : drop size w ≡ e ++ s = ap (λ (x : ℕ). drop x w) q ∙ (drop-past (pathWords p) (valueWords v ++ (e ++ s)) (length (valueWords v)) ∙ drop-front (length (valueWords v)) (valueWords v) (e ++ s) refl) in
+      let rest : drop size w ≡ e ++ s = ap (λ (x : ℕ). drop x w) q ∙ (drop-append-add (pathWords p) (valueWords v ++ (e ++ s)) (length (valueWords v)) ∙ drop-front (length (valueWords v)) (valueWords v) (e ++ s) refl) in
       let ih : groupSize (valueSize τ) (count g) (drop size w) ≡ length e = ap (groupSize (valueSize τ) (count g)) rest ∙ group-size τ f g s (a .1) in
       let whole : length (pathWords p ++ (valueWords v ++ e)) ≡ length (pathWords p) + (length (valueWords v) + length e) = length-append (pathWords p) (valueWords v ++ e) ∙ ap (λ (x : ℕ). length (pathWords p) + x) (length-append (valueWords v) e) in
       ap (groupSize (valueSize τ) (suc (count g))) is ∙ omega (arith, q, ih, whole)

@@ -6,8 +6,9 @@ use Prim.Native.Nat.{_*_, _+_, _-_, _<_, _≤_, suc, zero, ℕ}
 use native.Mathlib.Omega.{arith}
 use lib.Dec.{leb}
 use lib.ListN.{drop, length, length-append, replicate, take}
+use lib.Seq.{drop-append-add}
 use borrow.Author.Tests.{leb-false, leb-true}
-use Rattle.meaning.proofs.Lists.{drop-past, take-front}
+use Rattle.meaning.proofs.Lists.{take-front}
 use Rattle.meaning.proofs.Logic.{and-l, and-r}
 use Rattle.meaning.proofs.Opened.{opened}
 use Rattle.meaning.proofs.Types.{has-iff}
@@ -38,7 +39,7 @@ opt-core Edge = refl
 opt-core (Maybe τ) = refl
 opt-core (Group τ) = refl
 
-max-l : (a b : ℕ) → a ≤ max a b
+pub max-l : (a b : ℕ) → a ≤ max a b
 unfolding opened
 max-l a b = go (leb a b) refl
   where
@@ -46,7 +47,7 @@ max-l a b = go (leb a b) refl
     go true e = leb-true a b e
     go false e = omega arith
 
-max-r : (a b : ℕ) → b ≤ max a b
+pub max-r : (a b : ℕ) → b ≤ max a b
 unfolding opened
 max-r a b = go (leb a b) refl
   where
@@ -108,7 +109,7 @@ block f h (suc n) i (suc k) l =
     let b : List ℕ = each (upFrom n (suc i)) f in
     let e : 6 * suc k ≡ length (f i) + 6 * k = omega (arith, h i) in
     let e₂ : suc i + k ≡ i + suc k = omega arith in
-    ap (λ (m : ℕ). take 6 (drop m (f i ++ b))) e ∙ (ap (λ (l : List ℕ). take 6 l) (drop-past (f i) b (6 * k)) ∙ (block f h n (suc i) k (omega arith) ∙ ap f e₂))
+    ap (λ (m : ℕ). take 6 (drop m (f i ++ b))) e ∙ (ap (λ (l : List ℕ). take 6 l) (drop-append-add (f i) b (6 * k)) ∙ (block f h n (suc i) k (omega arith) ∙ ap f e₂))
 
 -- the six words of x are its type's numbers, padded
 slot-is : (π : Pattern) (x : ℕ) → isVariable x ≡ true → typeSlot (typeWords π) x ≡ padded (foundWords (typeOf π x))

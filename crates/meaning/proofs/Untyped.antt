@@ -39,10 +39,11 @@ pub typed→ : (π : Pattern) → ((x : ℕ) → inVar π x ≡ true → isVaria
 unfolding opened
 typed→ π v e = wellTyped-iff π .1 (typed-pattern π v e)
 
--- the pattern of a row, if it has one, is well-typed; or it is not
+-- the pattern of a row, if it has one, is well-typed
 abbrev pub RowTyped : List Row → ℕ → Type 0
 RowTyped t i = (π : Pattern) → itemAt t i ≡ pattern π → WellTyped π
 
+-- the row has a pattern that has no type: 16
 pub record RowUntyped (t : List Row) (i : ℕ) : Type 0 where
   pub π : Pattern
   pub item-is : itemAt t i ≡ pattern π

@@ -4,8 +4,8 @@ use mathlib.Core.Bool.{Bool, false, true}
 use Prim.Native.Nat.{ℕ}
 use native.Mathlib.Omega.{arith}
 use lib.Dec.{eqb}
-use borrow.Author.Tests.{eqb-true}
-use Rattle.meaning.proofs.Logic.{and-l, and-r, either, no-false, or-cases, or-false-both, or-false-l, or-false-r}
+use borrow.Author.Tests.{eq-eqb, eqb-true}
+use Rattle.meaning.proofs.Logic.{and-l, and-r, either, no-false, or-cases, or-false-both, or-false-l, or-false-r, or-l}
 use Rattle.meaning.proofs.Opened.{opened}
 use Rattle.meaning.specs.Pattern.{Condition, Pattern, and, concatenation, conditioned, edge, equalsConstant, equalsProperty, inCondition, inVar, named, neg, node, or, repetition, union}
 use Rattle.meaning.specs.Typing.{Edge, Found, Group, Maybe, Node, Ty, Ty-discrete, absent, clash, concatenationTy, conditionedTy, fits, meet, namedTy, repetitionTy, single, typeOf, typed, unionTy}
@@ -77,12 +77,21 @@ repetitionTy-absent absent e = refl
 repetitionTy-absent clash e = no-clash-absent e
 repetitionTy-absent (typed τ) e = no-typed-absent e
 
+-- a condition names some variable
+pub condition-variable : (θ : Condition) → (x : ℕ) × (inCondition θ x ≡ true)
+unfolding opened
+condition-variable (equalsConstant x k c) = (x, eq-eqb x x refl)
+condition-variable (equalsProperty x k y l) = (x, or-l (eqb x x) (eqb y x) (eq-eqb x x refl))
+condition-variable (and s t) = let h = condition-variable s in (h .0, or-l (inCondition s (h .0)) (inCondition t (h .0)) (h .1))
+condition-variable (or s t) = let h = condition-variable s in (h .0, or-l (inCondition s (h .0)) (inCondition t (h .0)) (h .1))
+condition-variable (neg s) = condition-variable s
+
 -- a condition that fits names only single variables
 named-single : (f : ℕ → Found) (y x : ℕ) → single (f y) ≡ true → eqb y x ≡ true → single (f x) ≡ true
 unfolding opened
 named-single f y x h e = rw (eqb-true y x e) at h
 
-fits-names : (f : ℕ → Found) (θ : Condition) (x : ℕ) → fits f θ ≡ true → inCondition θ x ≡ true → single (f x) ≡ true
+pub fits-names : (f : ℕ → Found) (θ : Condition) (x : ℕ) → fits f θ ≡ true → inCondition θ x ≡ true → single (f x) ≡ true
 unfolding opened
 fits-names f (equalsConstant y k c) x h e = named-single f y x h e
 fits-names f (equalsProperty y k z l) x h e = either (or-cases (eqb y x) (eqb z x) e) (named-single f y x (and-l (single (f y)) (single (f z)) h)) (named-single f z x (and-r (single (f y)) (single (f z)) h))

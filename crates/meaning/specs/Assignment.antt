@@ -13,14 +13,15 @@ use Rattle.meaning.specs.Pattern.{Condition, equalsConstant, equalsPrope
 use Rattle.meaning.specs.Typing.{Ty, Node, Edge, Maybe, Group, Found, absent, clash, typed}
 
 infixl 65 _∪_
--- a node or an edge, Nothing, or a group: each factor's path with its value, in walk order
 mutual
+  -- a node or an edge, Nothing, or a group
   pub data Value : Type 0 where
     one : Element → Value
     nothing : Value
     group : Entries → Value
     deriving Discrete as Value-discrete
 
+  -- what a group lists: each factor's path with its value, in walk order
   pub data Entries : Type 0 where
     no-entry : Entries
     entry : Walk → Value → Entries → Entries

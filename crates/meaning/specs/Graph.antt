@@ -19,12 +19,14 @@ pub record EdgeRow : Type 0 where
   pub second : ℕ
   pub directed : Bool
 
+-- nodes count from 0, edges in row order; labels and properties are of nodes and edges alike
 pub record Graph : Type 0 where
   pub nodes : ℕ
   pub edges : List EdgeRow
   pub label : Element → ℕ → Bool
   pub property : Element → ℕ → Option ℕ
 
+-- how a match walks an edge
 pub data Direction : Type 0 where
   forward backward undirected : Direction
 

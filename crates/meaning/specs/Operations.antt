@@ -1,4 +1,4 @@
--- The four operations open to C, each as a function from what it is lent to what it returns and leaves. (DESIGN: the report's layout.)
+-- The four operations open to C, each as a function from what it is lent to what it returns and leaves.
 use mathlib.Core.List.{List, [], _∷_, _++_}
 use mathlib.Core.Option.{Option, none, some}
 use mathlib.Core.Bool.{Bool, true, false, not}

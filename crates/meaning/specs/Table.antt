@@ -10,6 +10,7 @@ use Rattle.meaning.specs.Graph.{Direction, forward, backward, undirected
 use Rattle.meaning.specs.Pattern.{Condition, equalsConstant, equalsProperty, and, or, neg, Pattern, node, edge, union, concatenation, conditioned, repetition, edgeless, nesting}
 use Rattle.meaning.specs.Typing.{Ty, Node, Edge, Maybe, Group, Found, absent, clash, typed, typeOf}
 
+-- 01: a row of five numbers; what each means depends on the kind
 pub record Row : Type 0 where
   pub kind : ℕ
   pub p : ℕ

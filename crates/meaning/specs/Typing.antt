@@ -6,6 +6,7 @@ use Prim.Native.Nat.{ℕ}
 use Rattle.meaning.specs.Graph.{Direction}
 use Rattle.meaning.specs.Pattern.{Condition, equalsConstant, equalsProperty, and, or, neg, Pattern, node, edge, union, concatenation, conditioned, repetition, named, inVar}
 
+-- 000, Section 4: what a variable can be bound to
 pub data Ty : Type 0 where
   Node Edge : Ty
   Maybe : Ty → Ty
@@ -24,8 +25,9 @@ opt Edge = Maybe Edge
 opt (Maybe τ) = Maybe τ
 opt (Group τ) = Maybe (Group τ)
 
--- Figure 2, a constructor for each rule. `Has π z τ` is π ⊢ z : τ, and `Fits π θ` is π ⊢ θ : Bool
+-- Figure 2, a constructor for each rule
 mutual
+  -- π ⊢ z : τ
   pub data Has : Pattern → ℕ → Ty → Type 0 where
     has-node : {x : ℕ} {l : Option ℕ} → Has (node (some x) l) x Node
     has-edge : {d : Direction} {x : ℕ} {l : Option ℕ} → Has (edge d (some x) l) x Edge
@@ -40,6 +42,7 @@ mutual
     has-first : {a b : Pattern} {z : ℕ} {τ : Ty} → Has a z τ → inVar b z ≡ false → Has (concatenation a b) z τ
     has-second : {a b : Pattern} {z : ℕ} {τ : Ty} → Has b z τ → inVar a z ≡ false → Has (concatenation a b) z τ
 
+  -- π ⊢ θ : Bool
   pub data Fits : Pattern → Condition → Type 0 where
     fits-constant : {a : Pattern} {x k c : ℕ} {τ : Ty} → Has a x τ → Single τ → Fits a (equalsConstant x k c)
     fits-property : {a : Pattern} {x k y l : ℕ} {τ σ : Ty} → Has a x τ → Has a y σ → Single τ → Single σ → Fits a (equalsProperty x k y l)

@@ -20,7 +20,7 @@ use Rattle.path.specs.Masks.{Allowed, EdgeTested, MasksGrown, Masked, No
 use Rattle.path.specs.Walks.{stepped}
 
 -- below 256 the mask of one number is that number, also if it is not held
-only-below : (k j : ℕ) → j < 256 → only 256 k j ≡ eqb j k
+pub only-below : (k j : ℕ) → j < 256 → only 256 k j ≡ eqb j k
 only-below k j h = by-ltb k 256 (only-in 256 k j) (λ o. only-out 256 k j o ∙ sym (ne-eqb j k (λ e. omega arith)))
 
 -- ------------------------------------------------------------------ the ways through the code

@@ -1,4 +1,5 @@
-// A path by value, handed through the walk; beside it the nodes and edges that it has used, as masks.
+// A path by value, handed through the walk; beside it the nodes and edges that it has used, as masks. Each function promises which
+// path of the definitions the result is, or what the masks are of.
 mod path;
 mod used;
 mod written;

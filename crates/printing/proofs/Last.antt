@@ -15,6 +15,7 @@ pub data Passed (f : ℕ → Found) (w : List ℕ) (last at : ℕ) : Type 0 wher
   none-passed : at ≡ 0 → Passed f w last at
   one-passed : (k : ℕ) → last ≡ startOf f w k → at ≡ min (startOf f w (suc k)) (length w) → Passed f w last at
 
+-- last is the last record passed, and at is behind it
 pub record Seeking (t w : List ℕ) (last at : ℕ) : Type 0 where
   pub is : (f : ℕ → Found) → TypesAt f t → Passed f w last at
   pub within : (at ≤ length w) × (last ≤ length w)

@@ -29,6 +29,7 @@ TypesAt f t = (i : ℕ) → i < 8 → SlotAt (f (suc i)) t (6 * i)
 abbrev pub Forward : List ℕ → ℕ → ℕ → ℕ → Type 0
 Forward w at s r = r ≡ min (at + s) (length w)
 
+-- where the path ends that begins at a place
 pub record PathEnd (w : List ℕ) (at r : ℕ) : Type 0 where
   pub is : Forward w at (pathSize (drop at w)) r
   pub within : (r ≤ length w) × (min (at + 1) (length w) ≤ r)
@@ -43,10 +44,12 @@ pub record GroupEnd (left : ℕ) (t : List ℕ) (k : ℕ) (w : List ℕ) (at r :
   pub is : (τ : Ty) → TypeAt τ t k → length (tyWords τ) ≤ left → Forward w at (valueSize (Group τ) (drop at w)) r
   pub within : (r ≤ length w) × (min at (length w) ≤ r)
 
+-- where the value of variable i + 1 ends
 pub record VariableEnd (i : ℕ) (t w : List ℕ) (at r : ℕ) : Type 0 where
   pub is : (f : Found) → SlotAt f t (6 * i) → Forward w at (slotSize f (drop at w)) r
   pub within : (r ≤ length w) × (at ≤ r)
 
+-- where the record ends
 pub record RecordEnd (t w : List ℕ) (at r : ℕ) : Type 0 where
   pub is : (f : ℕ → Found) → TypesAt f t → Forward w at (recordSize f (drop at w)) r
   pub within : (r ≤ length w) × (min (at + 1) (length w) ≤ r)

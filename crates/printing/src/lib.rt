@@ -1,4 +1,5 @@
-// The text of a listing, as 01 gives it under 'Examples': filled page by page and written to standard output.
+// The text of a listing, as 01 gives it under 'Examples': filled page by page and written to standard output. Promised is that each
+// bookmark is the last record of the page before; the text itself is tested.
 mod bookmark;
 mod lines;
 mod pages;

@@ -7,6 +7,7 @@ use crate::text::put_text;
 ghost use Prim.Native.Nat.{_≤_};
 ghost use lib.ListN.{length};
 
+// Apart from the read, as in `words`.
 fn wide(word: u16) -> u64 {
     word as u64
 }
@@ -44,12 +45,14 @@ pub fn put_page(out: &mut Buffer, n: usize, types: &[u16], page: &[u16], used: u
     put_records(out, n, types, &page[0..used])
 }
 
+// The last line of a listing.
 pub fn put_done(out: &mut Buffer, n: usize, count: u64) -> usize {
     let mut end = put_text(out, n, b"done ");
     end = put_number(out, end, count);
     put_byte(out, end, b'\n')
 }
 
+// The line of a refused call.
 pub fn put_refusal(out: &mut Buffer, n: usize, number: u64, row: u64) -> usize {
     let mut end = put_text(out, n, b"refused ");
     end = put_number(out, end, number);

@@ -87,6 +87,7 @@ fn put_pages(
     end
 }
 
+// Page after page, each from the last record of the one before.
 fn put_listing(out: &mut Buffer, image: &[u8], pattern: &[u16], restrictor: u64) -> usize {
     let mut page = [0u16; 20000];
     let mut work = [0u16; 20000];

@@ -1,14 +1,10 @@
 // Places in words of which nothing is known: no place is past the end, and a word past the end is 0.
+use words::wide;
 ghost use mathlib.Core.Path.{_≡_};
 ghost use Prim.Native.Nat.{_+_, _<_, _≤_, min};
 ghost use lib.ListN.{length, getD};
 
-fn wide(word: u16) -> usize
-    ensures { λ r. ⌜ (r ≡ word) × (r < 65536) ⌝ }
-{
-    word as usize
-}
-
+// The word at a place, 0 past the end.
 pub fn word_at(words: &[u16], at: usize) -> usize
     ensures { λ r. ⌜ (r ≡ getD (now (words .entry)) at 0) × (r < 65536) ⌝ }
 {

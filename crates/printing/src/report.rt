@@ -1,5 +1,6 @@
 // The eight numbers of a report.
 
+// Apart from the read, as in `words`.
 fn wide(byte: u8) -> u64 {
     byte as u64
 }

@@ -11,6 +11,7 @@ fn write(out: &[u8], n: usize) {
     io::write_all(1, out);
 }
 
+// Writes the n bytes out.
 pub fn flush(out: &Buffer, n: usize) {
     write(out, n);
 }
@@ -26,6 +27,7 @@ pub fn put_byte(out: &mut Buffer, n: usize, byte: u8) -> usize {
     1
 }
 
+// Puts bytes behind n others.
 pub fn put_text(out: &mut Buffer, n: usize, text: &[u8]) -> usize {
     let mut end = n;
     let mut i: usize = 0;
@@ -36,6 +38,7 @@ pub fn put_text(out: &mut Buffer, n: usize, text: &[u8]) -> usize {
     end
 }
 
+// Puts a number in base ten.
 pub fn put_number(out: &mut Buffer, n: usize, number: u64) -> usize {
     let mut digits = [0u8; 20];
     let count = io::decimal(number, &mut digits);

@@ -36,6 +36,7 @@ fn put_variable(out: &mut Buffer, n: usize, types: &[u16], variable: usize) -> u
     put_type(out, end, types, 6 * variable)
 }
 
+// The first line: the variables present, rising, with their types.
 pub fn put_types(out: &mut Buffer, n: usize, types: &[u16; 48]) -> usize {
     let mut end = put_text(out, n, b"types");
     let mut variable: usize = 0;

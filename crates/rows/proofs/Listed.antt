@@ -1,7 +1,7 @@
 -- The kinds that 01 lists, as cases, and what a row of each is.
 use mathlib.Core.Path.{_≡_, refl, sym, ap, _∙_}
 use mathlib.Core.List.{List, [], _∷_}
-use mathlib.Core.Bool.{Bool, true, false, _&&_}
+use mathlib.Core.Bool.{Bool, _&&_, and-false, and-true, false, true}
 use Prim.Native.Nat.{ℕ, zero, suc, _<_, _≤_}
 use native.Mathlib.Omega.{arith}
 use lib.Dec.{eqb, ltb, leb}
@@ -12,18 +12,20 @@ use Rattle.meaning.specs.Table.{Form, form, fine, unused, isBad, patternForm, c
 use Rattle.meaning.specs.Table.{Row as RowOf}
 use Rattle.rows.specs.Rows.{patternKind, conditionKind}
 use Rattle.rows.specs.Uses.{usesOf, useOf, allowed}
-use Rattle.rows.proofs.Sorts.{and-no, pattern-high, condition-high}
+use Rattle.rows.proofs.Sorts.{pattern-high, condition-high}
 use Rattle.meaning.proofs.Logic.{no-false}
 
 abbrev pub five : ℕ → ℕ → ℕ → ℕ → ℕ → RowOf
 five k p q r s = record { kind = k; p = p; q = q; r = r; s = s }
 
+-- a kind that 01 does not list: whatever the numbers, the row is bad
 pub record Unlisted (k : ℕ) : Type 0 where
   pub bad : (p q r s : ℕ) → form (five k p q r s) ≡ isBad
   pub unusable : usesOf k ≡ 7 ∷ 7 ∷ 7 ∷ 7 ∷ []
   pub no-pattern : patternKind k ≡ false
   pub no-condition : conditionKind k ≡ false
 
+-- the kinds that 01 lists, and all others
 pub data Kind : ℕ → Type 0 where
   kind1 : Kind 1
   kind2 : Kind 2
@@ -84,35 +86,31 @@ unfoldable pub partsOf : ℕ → ℕ → ℕ → List ℕ
 partsOf k p q = if ltb k 5 then [] else if ltb k 8 then p ∷ q ∷ [] else if eqb k 8 then p ∷ [] else if ltb k 18 then [] else if ltb k 20 then p ∷ q ∷ [] else if eqb k 20 then p ∷ [] else []
 
 -- ------------------------------------------------------------------ what stands for a kind's uses is what fine asks
-and-yes : (a : Bool) → (a && true) ≡ a
-and-yes true = refl
-and-yes false = refl
-
 module _ (rows : List RowOf) (i : ℕ) where
   unused-fine : (b : Bool) (f : Form) → fine rows i (unused b f) ≡ (fine rows i f && b)
   unfolding fine unused
-  unused-fine true f = sym (and-yes (fine rows i f))
-  unused-fine false f = sym (and-no (fine rows i f))
+  unused-fine true f = sym (and-true (fine rows i f))
+  unused-fine false f = sym (and-false (fine rows i f))
 
   -- the four uses, and a least count not above the greatest
   unfoldable pub fitted : ℕ → ℕ → ℕ → ℕ → ℕ → Bool
   fitted k p q r s = allowed rows i (useOf k 0) p && (allowed rows i (useOf k 1) q && (allowed rows i (useOf k 2) r && (allowed rows i (useOf k 3) s && (if eqb k 8 then leb r s else true))))
 
   atom : (x b c : Bool) → (x && (b && c)) ≡ (x && (true && (b && (c && true))))
-  atom true true c = sym (and-yes c)
+  atom true true c = sym (and-true c)
   atom true false c = refl
   atom false b c = refl
 
   two : (x y b c : Bool) → ((x && y) && (b && c)) ≡ (x && (y && (b && (c && true))))
-  two true true true c = sym (and-yes c)
+  two true true true c = sym (and-true c)
   two true true false c = refl
   two true false b c = refl
   two false y b c = refl
 
   counted : (x b u v : Bool) → ((x && (u && v)) && b) ≡ (x && (b && (u && (true && v))))
-  counted true b true true = sym (and-yes b)
-  counted true b true false = sym (and-no b)
-  counted true b false v = sym (and-no b)
+  counted true b true true = sym (and-true b)
+  counted true b true false = sym (and-false b)
+  counted true b false v = sym (and-false b)
   counted false b u v = refl
 
   pub fine-fitted : {k : ℕ} → Kind k → (p q r s : ℕ) → fine rows i (form (five k p q r s)) ≡ fitted k p q r s
@@ -128,17 +126,17 @@ module _ (rows : List RowOf) (i : ℕ) where
   fine-fitted kind16 p q r s = unused-fine (eqb s 0) _ ∙ constants (isVariable p) (eqb s 0)
     where
       constants : (x b : Bool) → (x && b) ≡ (x && (true && (true && (b && true))))
-      constants x b = ap (λ (c : Bool). x && c) (sym (and-yes b))
+      constants x b = ap (λ (c : Bool). x && c) (sym (and-true b))
   fine-fitted kind17 p q r s = properties (isVariable p) (isVariable r)
     where
       properties : (x y : Bool) → (x && y) ≡ (x && (true && (y && (true && true))))
-      properties x y = ap (λ (c : Bool). x && c) (sym (and-yes y))
+      properties x y = ap (λ (c : Bool). x && c) (sym (and-true y))
   fine-fitted kind18 p q r s = unused-fine (eqb r 0 && eqb s 0) _ ∙ two (conditionRow rows i p) (conditionRow rows i q) (eqb r 0) (eqb s 0)
   fine-fitted kind19 p q r s = unused-fine (eqb r 0 && eqb s 0) _ ∙ two (conditionRow rows i p) (conditionRow rows i q) (eqb r 0) (eqb s 0)
   fine-fitted kind20 p q r s = unused-fine (eqb q 0 && (eqb r 0 && eqb s 0)) _ ∙ negs (conditionRow rows i p) (eqb q 0) (eqb r 0) (eqb s 0)
     where
       negs : (x a b c : Bool) → (x && (a && (b && c))) ≡ (x && (a && (b && (c && true))))
-      negs x a b c = ap (λ (d : Bool). x && (a && (b && d))) (sym (and-yes c))
+      negs x a b c = ap (λ (d : Bool). x && (a && (b && d))) (sym (and-true c))
   fine-fitted (unlisted {k} u) p q r s = ap (fine rows i) (u .bad p q r s) ∙ sym (ap (λ (us : List ℕ). allowed rows i (getD us 0 7) p && (allowed rows i (getD us 1 7) q && (allowed rows i (getD us 2 7) r && (allowed rows i (getD us 3 7) s && (if eqb k 8 then leb r s else true))))) (u .unusable))
 
   -- a row that is not malformed is of the sort of its kind

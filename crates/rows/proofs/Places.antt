@@ -182,6 +182,7 @@ times-append i (x ∷ a) b = go (eqb i x) (times-append i a b)
 abbrev namesIn : List RowOf → List ℕ
 namesIn rows = each rows (λ l. namesOf (form l))
 
+-- the rows below j name row i at n places
 pub record Counting (t : List ℕ) (i n j : ℕ) : Type 0 where
   pub upto : j ≤ length (rowsOf t)
   pub small : n ≤ 2 * j

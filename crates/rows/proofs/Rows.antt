@@ -1,11 +1,15 @@
 -- The rows of a table's words: their number, and what stands in each.
+use mathlib.Core.Option.{none}
 use mathlib.Core.Path.{_≡_, refl, sym, ap, _∙_}
 use mathlib.Core.List.{List, [], _∷_}
 use Prim.Native.Nat.{ℕ, zero, suc, _+_, _*_, _/_, _<_, _≤_}
 use native.Mathlib.Omega.{arith}
 use lib.ListN.{length, getD}
-use Rattle.meaning.specs.Table.{rowsOf, noRow}
+use Rattle.meaning.proofs.Accepted.{clear}
+use Rattle.meaning.proofs.Logic.{not-false}
+use Rattle.meaning.specs.Table.{fault12, fine, formAt, noRow, rowCause, rowsOf}
 use Rattle.meaning.specs.Table.{Row as RowOf}
+use Rattle.rows.specs.Faults.{Formed}
 use Rattle.rows.specs.Rows.{Reads}
 
 pub rows-length : (t : List ℕ) → length (rowsOf t) ≡ length t / 5
@@ -46,3 +50,8 @@ pub reads : (t : List ℕ) (i k p q r s : ℕ) → i * 5 + 5 ≤ length t → k 
     k < 65536 → p < 65536 → q < 65536 → r < 65536 → s < 65536 → Reads t i (record { kind = k; p = p; q = q; r = r; s = s })
 reads t i k p q r s h e₀ e₁ e₂ e₃ e₄ b₀ b₁ b₂ b₃ b₄ =
     record { is = rows-at t i h ∙ made (sym e₀) (sym e₁) (sym e₂) (sym e₃) (sym e₄); kind-fits = b₀; p-fits = b₁; q-fits = b₂; r-fits = b₃; s-fits = b₄ }
+
+-- with no row that 12 finds every row is formed
+pub formed-by : (t : List ℕ) → rowCause (rowsOf t) 12 (fault12 (rowsOf t)) ≡ none → Formed t
+unfolding fault12
+formed-by t e = record { ok = λ i h. not-false (fine (rowsOf t) i (formAt (rowsOf t) i)) (clear (rowsOf t) 12 (fault12 (rowsOf t)) e i h) }

@@ -1,6 +1,6 @@
 -- The sort of a kind.
 use mathlib.Core.Path.{_≡_, refl, sym, ap, ap₂, _∙_}
-use mathlib.Core.Bool.{Bool, true, false, _&&_}
+use mathlib.Core.Bool.{Bool, _&&_, and-false, false, true}
 use Prim.Native.Nat.{ℕ, _<_, _≤_}
 use native.Mathlib.Omega.{arith}
 use lib.Dec.{leb}
@@ -10,10 +10,6 @@ use Rattle.meaning.proofs.Logic.{no-false}
 use Rattle.rows.specs.Rows.{patternKind, conditionKind, sortOf}
 use Rattle.rows.specs.declared.row.Sort.{Sort}
 use Rattle.rows.specs.declared.row.Sort.the-variants.{Pattern, Condition, Unknown}
-
-pub and-no : (a : Bool) → (a && false) ≡ false
-and-no true = refl
-and-no false = refl
 
 module _ (k : ℕ) where
   pub pattern-in : 1 ≤ k → k < 9 → patternKind k ≡ true
@@ -26,7 +22,7 @@ module _ (k : ℕ) where
 
   pub pattern-high : 8 < k → patternKind k ≡ false
   unfolding patternKind
-  pattern-high a = ap (λ (c : Bool). leb 1 k && c) (lt-leb k 8 a) ∙ and-no (leb 1 k)
+  pattern-high a = ap (λ (c : Bool). leb 1 k && c) (lt-leb k 8 a) ∙ and-false (leb 1 k)
 
   pub condition-in : 16 ≤ k → k < 21 → conditionKind k ≡ true
   unfolding conditionKind
@@ -38,7 +34,7 @@ module _ (k : ℕ) where
 
   pub condition-high : 20 < k → conditionKind k ≡ false
   unfolding conditionKind
-  condition-high a = ap (λ (c : Bool). leb 16 k && c) (lt-leb k 20 a) ∙ and-no (leb 16 k)
+  condition-high a = ap (λ (c : Bool). leb 16 k && c) (lt-leb k 20 a) ∙ and-false (leb 16 k)
 
   picked : (a b : Bool) → patternKind k ≡ a → conditionKind k ≡ b → (if a then Pattern else if b then Condition else Unknown) ≡ sortOf k
   unfolding sortOf

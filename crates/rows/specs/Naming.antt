@@ -10,6 +10,7 @@ pub record Once (i p r : ℕ) : Type 0 where
   pub is : r ≡ times i (p ∷ [])
   pub small : r ≤ 1
 
+-- the same for two names
 pub record Twice (i p q r : ℕ) : Type 0 where
   pub is : r ≡ times i (p ∷ q ∷ [])
   pub small : r ≤ 2

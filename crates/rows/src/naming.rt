@@ -59,6 +59,7 @@ fn named(t: &[u16], i: usize) -> usize
     n
 }
 
+// 13: a row but the last that is not named once, or a last row that is a condition.
 pub fn loose(t: &[u16], i: usize) -> bool
     requires { ⌜ (i * 5 + 5 ≤ length (now t)) × (length (now t) ≤ 320) × Formed (now t) ⌝ }
     ensures { λ r. ⌜ r ≡ fault13 (rowsOf (now (t .entry))) i ⌝ }

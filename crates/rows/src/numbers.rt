@@ -45,6 +45,7 @@ fn misused(t: &[u16], i: usize, usage: u8, n: usize) -> bool
     }
 }
 
+// 12: a kind not listed, or a number that the kind does not allow.
 pub fn malformed(t: &[u16], i: usize) -> bool
     requires { ⌜ i * 5 + 5 ≤ length (now t) ⌝ }
     ensures { λ r. ⌜ Tells (fault12 (rowsOf (now (t .entry)))) i r ⌝ }

@@ -1,21 +1,17 @@
 // A row of the table, and the sort of its kind.
+use words::wide;
 ghost use mathlib.Core.Path.{_≡_};
 ghost use Prim.Native.Nat.{_<_, _≤_, _+_, _*_};
 ghost use lib.ListN.{length};
 ghost use Rattle.rows.specs.Rows.{Reads, patternKind, conditionKind, sortOf};
 
+// 01: a row of five numbers.
 pub struct Row {
     pub kind: usize,
     pub p: usize,
     pub q: usize,
     pub r: usize,
     pub s: usize,
-}
-
-fn wide(x: u16) -> usize
-    ensures { λ r. ⌜ (r ≡ x) × (r < 65536) ⌝ }
-{
-    x as usize
 }
 
 // The five numbers of row i.
@@ -38,12 +34,14 @@ pub fn row_at(t: &[u16], i: usize) -> Row
     }
 }
 
+// What the kind says that a row is.
 pub enum Sort {
     Pattern,
     Condition,
     Unknown,
 }
 
+// Ranges of kinds: 1 to 8 patterns, 16 to 20 conditions.
 pub fn sort_of(kind: usize) -> Sort
     ensures { λ r. ⌜ r ≡ sortOf kind ⌝ }
 {
@@ -54,6 +52,7 @@ pub fn sort_of(kind: usize) -> Sort
     }
 }
 
+// Whether a row of the kind is a pattern.
 pub fn is_pattern(kind: usize) -> bool
     ensures { λ r. ⌜ r ≡ patternKind kind ⌝ }
 {
@@ -65,6 +64,7 @@ pub fn is_pattern(kind: usize) -> bool
     }
 }
 
+// Whether a row of the kind is a condition.
 pub fn is_condition(kind: usize) -> bool
     ensures { λ r. ⌜ r ≡ conditionKind kind ⌝ }
 {

@@ -21,12 +21,12 @@ use Rattle.table.specs.Verdicts.{causeOf}
 use Rattle.table.specs.TypeArea.{Checked}
 use Rattle.table.specs.declared.causes.Verdict.{Verdict}
 use Rattle.table.specs.declared.causes.Verdict.the-variants.{Accepted}
-use Rattle.rows.proofs.Rows.{rows-length, in-rows}
+use Rattle.rows.proofs.Rows.{formed-by, in-rows, rows-length}
 use Rattle.table.proofs.TypedRows.{plain-typed, row-no-clash}
-use Rattle.table.proofs.Trying.{formed-by, shallow-by}
+use Rattle.table.proofs.Trying.{shallow-by}
 
 module _ (t : List ℕ) (e : patternFault t ≡ none) where
-  no-causes : (whole 11 (badLength t) ≡ none) × (tableFault (rowsOf t) ≡ none)
+  pub no-causes : (whole 11 (badLength t) ≡ none) × (tableFault (rowsOf t) ≡ none)
   unfolding patternFault
   no-causes = first-none (whole 11 (badLength t)) (tableFault (rowsOf t)) e
 

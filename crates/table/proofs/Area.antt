@@ -6,10 +6,10 @@ use mathlib.Core.Bool.{Bool}
 use Prim.Native.Nat.{ℕ, zero, suc, _+_, _-_, _*_, _/_, _<_, _≤_}
 use native.Mathlib.Omega.{arith}
 use native.Mathlib.Numerals.{add-one}
-use lib.ListN.{length, take, drop, set, replicate, length-append, length-drop, length-set}
+use lib.ListN.{length, take, drop, length-append, length-drop}
 use lib.Seq.{take-at, drop-append-add, drop-drop}
-use borrow.Author.Fill.{fill-none, fill-more}
 use borrow.Author.Tests.{lt-ltb, le-ltb}
+use Rattle.meaning.proofs.TypeWords.{length-padded}
 use Rattle.meaning.specs.Basics.{if_then_else_, Cause, each, eight, upFrom}
 use Rattle.meaning.specs.Typing.{typeOf}
 use Rattle.meaning.specs.Table.{patternFault, patternOf, foundWords, padded, typeWords}
@@ -21,7 +21,7 @@ use Rattle.table.specs.Verdicts.{causeOf}
 use Rattle.table.specs.TypeArea.{octal, Checked, TypesLeft}
 use Rattle.table.specs.declared.causes.Verdict.{Verdict}
 use Rattle.table.specs.declared.causes.Verdict.the-variants.{Accepted, Refused}
-use Rattle.table.proofs.Digits.{found-octal, padded-long}
+use Rattle.table.proofs.Digits.{found-octal}
 use Rattle.table.proofs.AcceptedTable.{plain-root, type-no-clash}
 
 -- ------------------------------------------------------------------ the loop over the variables
@@ -50,8 +50,9 @@ up-more t x =
 up-long : (t : List ℕ) (x : ℕ) → length (upTo t x) ≡ 6 * x
 unfolding each upFrom
 up-long t zero = refl
-up-long t (suc x) = ap length (ap (upTo t) (sym (add-one x)) ∙ up-more t x) ∙ length-append (upTo t x) (wordsOf t (x + 1)) ∙ omega (arith, up-long t x, padded-long (foundWords (typeOf (patternOf t) (x + 1))))
+up-long t (suc x) = ap length (ap (upTo t) (sym (add-one x)) ∙ up-more t x) ∙ length-append (upTo t x) (wordsOf t (x + 1)) ∙ omega (arith, up-long t x, length-padded (foundWords (typeOf (patternOf t) (x + 1))))
 
+-- the types of the variables 1 to x are written
 pub record Writing (t d₀ d : List ℕ) (x : ℕ) : Type 0 where
   pub upto : x ≤ 8
   pub room : 48 ≤ length d₀
@@ -77,23 +78,6 @@ unfolding over typeWords eight upFrom
 writing-all t d₀ d x w l =
     let e : x ≡ 8 = omega (arith, w .upto) in
     w .is ∙ ap (λ (n : ℕ). upTo t n ++ drop (6 * n) d₀) e ∙ ap (λ (m : ℕ). upTo t 8 ++ drop m d₀) (sym (up-long t 8))
-
--- ------------------------------------------------------------------ clear
-pub record Filled (d₀ d : List ℕ) (i : ℕ) : Type 0 where
-  pub upto : i ≤ 48
-  pub room : 48 ≤ length d₀
-  pub same-long : length d ≡ length d₀
-  pub is : d ≡ replicate i 0 ++ drop i d₀
-
-pub filled-none : (d : List ℕ) → 48 ≤ length d → Filled d d 0
-filled-none d h = record { upto = omega arith; room = h; same-long = refl; is = fill-none d 0 }
-
-pub filled-more : (d₀ d : List ℕ) (i : ℕ) → Filled d₀ d i → i < 48 → Filled d₀ (set d i 0) (i + 1)
-filled-more d₀ d i f h = record { upto = omega arith; room = f .room; same-long = length-set d i 0 ∙ f .same-long; is = rw (f .is) (fill-more i 0 d₀ (omega (arith, f .room))) }
-
-pub filled-all : (d₀ d : List ℕ) (i : ℕ) → Filled d₀ d i → 48 ≤ i → d ≡ cleared 48 d₀
-unfolding cleared
-filled-all d₀ d i f h = let e : i ≡ 48 = omega (arith, f .upto) in f .is ∙ ap (λ (n : ℕ). replicate n 0 ++ drop n d₀) e
 
 -- ------------------------------------------------------------------ check_types
 module _ (t d : List ℕ) where

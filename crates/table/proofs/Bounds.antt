@@ -3,9 +3,10 @@ use mathlib.Core.Path.{_≡_, refl}
 use mathlib.Core.Bool.{Bool, true, false}
 use Prim.Native.Nat.{ℕ, zero, suc, _+_, _*_, _<_, _≤_}
 use native.Mathlib.Omega.{arith}
-use lib.Dec.{eqb, leb}
-use borrow.Author.Tests.{eqb-true, eqb-false, leb-true, leb-false}
-use Rattle.meaning.specs.Basics.{if_then_else_, max}
+use lib.Dec.{eqb}
+use borrow.Author.Tests.{eqb-true, eqb-false}
+use Rattle.meaning.proofs.TypeWords.{max-l, max-r}
+use Rattle.meaning.specs.Basics.{max}
 use Rattle.meaning.specs.Pattern.{Pattern, node, edge, union, concatenation, conditioned, repetition, named, nesting}
 use Rattle.meaning.specs.Typing.{Ty, Ty-discrete, Node, Edge, Maybe, Group, Found, absent, clash, typed, opt, meet, unionTy, concatenationTy, repetitionTy, namedTy}
 use Rattle.typecode.specs.Codes.{tyCode, codeOf}
@@ -106,22 +107,6 @@ named-held : (n : ℕ) (τ : Ty) (b : Bool) → Fits n τ → Held n (namedTy τ
 unfolding namedTy
 named-held n τ true h = h
 named-held n τ false h = tt
-
-max-l : (a b : ℕ) → a ≤ max a b
-unfolding max
-max-l a b = go (leb a b) refl
-  where
-    go : (c : Bool) → leb a b ≡ c → a ≤ (if c then b else a)
-    go true e = leb-true a b e
-    go false e = omega arith
-
-max-r : (a b : ℕ) → b ≤ max a b
-unfolding max
-max-r a b = go (leb a b) refl
-  where
-    go : (c : Bool) → leb a b ≡ c → b ≤ (if c then b else a)
-    go true e = omega arith
-    go false e = let z : b < a = leb-false a b e in omega arith
 
 plain-held : (π : Pattern) (x : ℕ) → Held (nesting π) (plainOf π x)
 unfolding plainOf nesting tyCode cap

@@ -17,6 +17,7 @@ use Rattle.table.specs.Repetition.{Edgeless, Depth}
 use Rattle.rows.specs.declared.row.Row.{Row}
 use Rattle.rows.proofs.Places.{p-lower, q-lower, p-lower-c, q-lower-c}
 use Rattle.rows.proofs.Items.{item-node, item-edge, item-union, item-concatenation, item-conditioned, item-repetition, item-zero, item-other, item-not-repeated}
+use Rattle.table.specs.Variables.{patternAt}
 
 -- ------------------------------------------------------------------ a named row is lower, and in the table
 module _ {t : List ℕ} {row : ℕ} {r : Row} (d : Reads t row r) (s : Stands t row) where
@@ -56,8 +57,10 @@ module _ {t : List ℕ} {row : ℕ} {r : Row} (d : Reads t row r) (s : Typable t
   q-types e x y = (q-falls d (s .stands) e x y .0, record { stands = q-stands d (s .stands) x y; shallow = s .shallow })
 
 -- ------------------------------------------------------------------ edgeless
-abbrev patternIn : List ℕ → ℕ → Pattern
-patternIn t i = asPattern (itemAt (rowsOf t) i)
+-- the pattern of a row that reads as one
+pub shown : (t : List ℕ) (row : ℕ) (π : Pattern) → itemAt (rowsOf t) row ≡ pattern π → patternAt t row ≡ π
+unfolding asPattern
+shown t row π e = ap asPattern e
 
 module _ (t : List ℕ) (row : ℕ) (r : Row) (d : Reads t row r) (s : Stands t row) where
   f : Formed t
@@ -66,37 +69,33 @@ module _ (t : List ℕ) (row : ℕ) (r : Row) (d : Reads t row r) (s : Stands t 
   l : row * 5 + 5 ≤ length t
   l = s .room
 
-  shown : (π : Pattern) → itemAt (rowsOf t) row ≡ pattern π → patternIn t row ≡ π
-  unfolding asPattern
-  shown π e = ap asPattern e
-
   pub ed-edge : 2 ≤ r .kind → r .kind < 5 → Edgeless t row false
   unfolding edgeless
-  ed-edge x y = let e = item-edge t row r d f l x y in record { is = sym (ap edgeless (shown _ (e .1))) }
+  ed-edge x y = let e = item-edge t row r d f l x y in record { is = sym (ap edgeless (shown t row _ (e .1))) }
 
   pub ed-union-yes : (a : Bool) → r .kind ≡ 5 → Edgeless t (r .p) a → a ≡ true → Edgeless t row true
   unfolding edgeless
-  ed-union-yes a k h y = record { is = sym (ap edgeless (shown _ (item-union t row r d f l k)) ∙ ap (λ (b : Bool). b || edgeless (patternIn t (r .q))) (sym (h .is) ∙ y)) }
+  ed-union-yes a k h y = record { is = sym (ap edgeless (shown t row _ (item-union t row r d f l k)) ∙ ap (λ (b : Bool). b || edgeless (patternAt t (r .q))) (sym (h .is) ∙ y)) }
 
   pub ed-union-no : (a b : Bool) → r .kind ≡ 5 → Edgeless t (r .p) a → a ≡ false → Edgeless t (r .q) b → Edgeless t row b
   unfolding edgeless
-  ed-union-no a b k h n g = record { is = g .is ∙ sym (ap edgeless (shown _ (item-union t row r d f l k)) ∙ ap (λ (b : Bool). b || edgeless (patternIn t (r .q))) (sym (h .is) ∙ n)) }
+  ed-union-no a b k h n g = record { is = g .is ∙ sym (ap edgeless (shown t row _ (item-union t row r d f l k)) ∙ ap (λ (b : Bool). b || edgeless (patternAt t (r .q))) (sym (h .is) ∙ n)) }
 
   pub ed-both : (a b : Bool) → r .kind ≡ 6 → Edgeless t (r .p) a → a ≡ true → Edgeless t (r .q) b → Edgeless t row b
   unfolding edgeless
-  ed-both a b k h y g = record { is = g .is ∙ sym (ap edgeless (shown _ (item-concatenation t row r d f l k)) ∙ ap (λ (b : Bool). b && edgeless (patternIn t (r .q))) (sym (h .is) ∙ y)) }
+  ed-both a b k h y g = record { is = g .is ∙ sym (ap edgeless (shown t row _ (item-concatenation t row r d f l k)) ∙ ap (λ (b : Bool). b && edgeless (patternAt t (r .q))) (sym (h .is) ∙ y)) }
 
   pub ed-not-both : (a : Bool) → r .kind ≡ 6 → Edgeless t (r .p) a → a ≡ false → Edgeless t row false
   unfolding edgeless
-  ed-not-both a k h n = record { is = sym (ap edgeless (shown _ (item-concatenation t row r d f l k)) ∙ ap (λ (b : Bool). b && edgeless (patternIn t (r .q))) (sym (h .is) ∙ n)) }
+  ed-not-both a k h n = record { is = sym (ap edgeless (shown t row _ (item-concatenation t row r d f l k)) ∙ ap (λ (b : Bool). b && edgeless (patternAt t (r .q))) (sym (h .is) ∙ n)) }
 
   pub ed-conditioned : (a : Bool) → r .kind ≡ 7 → Edgeless t (r .p) a → Edgeless t row a
   unfolding edgeless
-  ed-conditioned a k h = record { is = h .is ∙ sym (ap edgeless (shown _ (item-conditioned t row r d f l k))) }
+  ed-conditioned a k h = record { is = h .is ∙ sym (ap edgeless (shown t row _ (item-conditioned t row r d f l k))) }
 
   pub ed-repetition : r .kind ≡ 8 → Edgeless t row (eqb (r .r) 0)
   unfolding edgeless
-  ed-repetition k = record { is = sym (ap edgeless (shown _ (item-repetition t row r d f l k))) }
+  ed-repetition k = record { is = sym (ap edgeless (shown t row _ (item-repetition t row r d f l k))) }
 
   -- kind 1 is a node; kind 0 is of no row here
   pub ed-low : r .kind < 2 → Edgeless t row true
@@ -105,7 +104,7 @@ module _ (t : List ℕ) (row : ℕ) (r : Row) (d : Reads t row r) (s : Stands t 
     where
       go : (b : Bool) → eqb (r .kind) 0 ≡ b → Edgeless t row true
       go true e = record { is = sym (ap edgeless (item-zero t row r d f l (eqb-true (r .kind) 0 e))) }
-      go false e = let n : r .kind ≡ 0 → ⊥ = eqb-false (r .kind) 0 e in record { is = sym (ap edgeless (shown _ (item-node t row r d f l (omega arith)))) }
+      go false e = let n : r .kind ≡ 0 → ⊥ = eqb-false (r .kind) 0 e in record { is = sym (ap edgeless (shown t row _ (item-node t row r d f l (omega arith)))) }
 
   pub ed-high : 5 ≤ r .kind → (r .kind ≡ 5 → ⊥) → (r .kind ≡ 6 → ⊥) → (r .kind ≡ 7 → ⊥) → (r .kind ≡ 8 → ⊥) → Edgeless t row true
   unfolding edgeless
@@ -131,17 +130,17 @@ module _ (t : List ℕ) (row : ℕ) (r : Row) (d : Reads t row r) (s : Stands t 
       most true u v = v
       most false u v = u
 
-      which : (c : Bool) → eqb (r .kind) 5 ≡ c → nesting (patternIn t row) ≡ max (nesting (patternIn t (r .p))) (nesting (patternIn t (r .q)))
-      which true e = ap nesting (shown _ (item-union t row r d f l (eqb-true (r .kind) 5 e)))
-      which false e = let n : r .kind ≡ 5 → ⊥ = eqb-false (r .kind) 5 e in ap nesting (shown _ (item-concatenation t row r d f l (omega arith)))
+      which : (c : Bool) → eqb (r .kind) 5 ≡ c → nesting (patternAt t row) ≡ max (nesting (patternAt t (r .p))) (nesting (patternAt t (r .q)))
+      which true e = ap nesting (shown t row _ (item-union t row r d f l (eqb-true (r .kind) 5 e)))
+      which false e = let n : r .kind ≡ 5 → ⊥ = eqb-false (r .kind) 5 e in ap nesting (shown t row _ (item-concatenation t row r d f l (omega arith)))
 
   pub deep-conditioned : (a : ℕ) → r .kind ≡ 7 → Depth t (r .p) a → Depth t row a
   unfolding nesting
-  deep-conditioned a k h = record { is = h .is ∙ sym (ap nesting (shown _ (item-conditioned t row r d f l k))); small = omega (arith, h .small, p-lower t row r d f l (omega arith) (omega arith)) }
+  deep-conditioned a k h = record { is = h .is ∙ sym (ap nesting (shown t row _ (item-conditioned t row r d f l k))); small = omega (arith, h .small, p-lower t row r d f l (omega arith) (omega arith)) }
 
   pub deep-repetition : (a : ℕ) → r .kind ≡ 8 → Depth t (r .p) a → Depth t row (1 + a)
   unfolding nesting
-  deep-repetition a k h = record { is = rw (shown _ (item-repetition t row r d f l k)) (omega (arith, h .is)); small = omega (arith, h .small, p-lower t row r d f l (omega arith) (omega arith)) }
+  deep-repetition a k h = record { is = rw (shown t row _ (item-repetition t row r d f l k)) (omega (arith, h .is)); small = omega (arith, h .small, p-lower t row r d f l (omega arith) (omega arith)) }
 
   pub deep-low : r .kind < 5 → Depth t row 0
   unfolding nesting
@@ -149,12 +148,12 @@ module _ (t : List ℕ) (row : ℕ) (r : Row) (d : Reads t row r) (s : Stands t 
     where
       go : (a b : Bool) → eqb (r .kind) 0 ≡ a → eqb (r .kind) 1 ≡ b → Depth t row 0
       go true b e₀ e₁ = record { is = sym (ap nesting (item-zero t row r d f l (eqb-true (r .kind) 0 e₀))); small = omega arith }
-      go false true e₀ e₁ = record { is = sym (ap nesting (shown _ (item-node t row r d f l (eqb-true (r .kind) 1 e₁)))); small = omega arith }
+      go false true e₀ e₁ = record { is = sym (ap nesting (shown t row _ (item-node t row r d f l (eqb-true (r .kind) 1 e₁)))); small = omega arith }
       go false false e₀ e₁ =
           let n₀ : r .kind ≡ 0 → ⊥ = eqb-false (r .kind) 0 e₀ in
           let n₁ : r .kind ≡ 1 → ⊥ = eqb-false (r .kind) 1 e₁ in
           let e = item-edge t row r d f l (omega arith) x in
-          record { is = sym (ap nesting (shown _ (e .1))); small = omega arith }
+          record { is = sym (ap nesting (shown t row _ (e .1))); small = omega arith }
 
   pub deep-high : 7 ≤ r .kind → (r .kind ≡ 7 → ⊥) → (r .kind ≡ 8 → ⊥) → Depth t row 0
   unfolding nesting

@@ -1,11 +1,11 @@
 -- The digits of a type's number are its numbers in words.
 use mathlib.Core.Path.{_≡_, refl, sym, ap, ap₂, _∙_}
-use mathlib.Core.List.{List, [], _∷_, _++_}
+use mathlib.Core.List.{List, [], _++_, _∷_}
 use Prim.Native.Nat.{ℕ, zero, suc, _+_, _-_, _*_, _/_, _%_, _≤_}
 use native.Mathlib.Omega.{arith}
 use native.Mathlib.Numerals.{add-one, add-two, add-three, add-four, add-five}
-use lib.ListN.{length, take, drop, set, replicate, length-append}
-use lib.Seq.{sets-eq, length-take-le}
+use lib.ListN.{length, take, drop, set, replicate}
+use lib.Seq.{sets-eq}
 use Rattle.meaning.specs.Typing.{Ty, Node, Edge, Maybe, Group, Found, absent, clash, typed}
 use Rattle.meaning.specs.Table.{tyWords, foundWords, padded}
 use Rattle.typecode.specs.Codes.{tyCode, codeOf}
@@ -38,10 +38,6 @@ unfolding codeOf foundWords padded octal
 found-octal absent n = refl
 found-octal clash n = absurd (n refl)
 found-octal (typed τ) n = sym (ty-octal 6 6 τ (omega arith))
-
-pub padded-long : (l : List ℕ) → length (padded l) ≡ 6
-unfolding padded
-padded-long l = length-take-le 6 (l ++ (0 ∷ 0 ∷ 0 ∷ 0 ∷ 0 ∷ 0 ∷ [])) (simp length-append (omega arith))
 
 -- ------------------------------------------------------------------ six stores in a row
 pub put-six : (l : List ℕ) (k x : ℕ) → k + 6 ≤ length l

@@ -11,6 +11,7 @@ use lib.ListN.{length, getD, take, drop, set, length-append, length-set}
 use lib.Pow.{shl-exact}
 use lib.Seq.{sets-eq, getD-at, take-at, drop-append-add, drop-drop}
 use borrow.Author.Tests.{eqb-true, eqb-false}
+use Rattle.meaning.proofs.Eight.{from, from-next}
 use Rattle.meaning.specs.Basics.{each, eight, upFrom}
 use Rattle.meaning.specs.Pattern.{Pattern, inVar}
 use Rattle.meaning.specs.Typing.{Found, absent, clash, typed, typeOf}
@@ -20,7 +21,6 @@ use Rattle.typecode.specs.Codes.{codeOf}
 use Rattle.table.specs.Typing.{TypeIs}
 use Rattle.table.specs.Variables.{One, Within, Weight, HasVariables, HasType, patternAt, maskOf, listOf, variablesAt, typeAt}
 use Rattle.typecode.proofs.Codes.{ty-some}
-use Rattle.table.proofs.Plain.{from, from-next}
 use Rattle.table.proofs.Area.{each-append, up-end}
 use Rattle.table.proofs.AcceptedTable.{plain-checked}
 
@@ -75,7 +75,7 @@ pub record Gathering (t : List ℕ) (row mask x : ℕ) : Type 0 where
   pub is : variablesAt t row ≡ mask + maskOf (patternAt t row) (from x)
 
 pub gathering-none : (t : List ℕ) (row : ℕ) → Gathering t row 0 1
-unfolding variablesAt eight from
+unfolding variablesAt eight
 gathering-none t row = record { low = omega arith; high = omega arith; small = omega arith; is = omega arith }
 
 pub gathering-more : (t : List ℕ) (row mask x w : ℕ) → Gathering t row mask x → x < 9 → Weight t row x w → Gathering t row (mask + w) (x + 1)
@@ -85,7 +85,7 @@ gathering-more t row mask x w g l h =
     record { low = omega arith; high = omega arith; small = omega (arith, g .small, h .small); is = omega (arith, g .is, e, h .is) }
 
 pub gathering-all : (t : List ℕ) (row mask x : ℕ) → Gathering t row mask x → 9 ≤ x → HasVariables t row mask
-unfolding maskOf from
+unfolding maskOf
 gathering-all t row mask x g l =
     let e : x ≡ 9 = omega (arith, g .high) in
     let z : maskOf (patternAt t row) (from x) ≡ 0 = ap (λ (y : ℕ). maskOf (patternAt t row) (from y)) e in
@@ -103,6 +103,7 @@ unfolding listOf each upFrom
 list-long f zero = refl
 list-long f (suc n) = ap length (ap (listOf f) (sym (add-one n)) ∙ list-more f n) ∙ length-append (listOf f n) (f n ∷ []) ∙ omega (arith, list-long f n)
 
+-- the first i numbers of the table of f are written
 pub record Tabled (f : ℕ → ℕ) (n : ℕ) (d₀ d : List ℕ) (i : ℕ) : Type 0 where
   pub upto : i ≤ n
   pub room : n ≤ length d₀

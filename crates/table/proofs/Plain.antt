@@ -1,12 +1,13 @@
 -- The ways out of type_of, fits and clashes.
 use mathlib.Core.Path.{_≡_, refl, sym, ap, _∙_}
-use mathlib.Core.List.{List, [], _∷_}
+use mathlib.Core.List.{List}
 use mathlib.Core.Bool.{Bool, true, false, _&&_, _||_}
-use Prim.Native.Nat.{ℕ, zero, suc, _+_, _*_, _<_, _≤_}
+use Prim.Native.Nat.{ℕ, _+_, _*_, _<_, _≤_}
 use native.Mathlib.Omega.{arith}
 use lib.Dec.{eqb}
 use lib.ListN.{length}
 use borrow.Author.Tests.{eq-eqb, ne-eqb, eqb-true, eqb-false}
+use Rattle.meaning.proofs.Eight.{from, from-next}
 use Rattle.meaning.specs.Basics.{eight}
 use Rattle.meaning.specs.Pattern.{Pattern, Condition, named}
 use Rattle.meaning.specs.Typing.{Node, Edge, Found, absent, clash, typed, single, fits, namedTy}
@@ -136,31 +137,6 @@ module _ (t : List ℕ) (part row : ℕ) (r : Row) (d : Reads t row r) (s : Stan
   fits-high a n = no-condition (condition-high (r .kind) (omega arith))
 
 -- ------------------------------------------------------------------ clashes
-unfoldable pub from : ℕ → List ℕ
-from zero = []
-from (suc zero) = 1 ∷ 2 ∷ 3 ∷ 4 ∷ 5 ∷ 6 ∷ 7 ∷ 8 ∷ []
-from (suc (suc zero)) = 2 ∷ 3 ∷ 4 ∷ 5 ∷ 6 ∷ 7 ∷ 8 ∷ []
-from (suc (suc (suc zero))) = 3 ∷ 4 ∷ 5 ∷ 6 ∷ 7 ∷ 8 ∷ []
-from (suc (suc (suc (suc zero)))) = 4 ∷ 5 ∷ 6 ∷ 7 ∷ 8 ∷ []
-from (suc (suc (suc (suc (suc zero))))) = 5 ∷ 6 ∷ 7 ∷ 8 ∷ []
-from (suc (suc (suc (suc (suc (suc zero)))))) = 6 ∷ 7 ∷ 8 ∷ []
-from (suc (suc (suc (suc (suc (suc (suc zero))))))) = 7 ∷ 8 ∷ []
-from (suc (suc (suc (suc (suc (suc (suc (suc zero)))))))) = 8 ∷ []
-from (suc (suc (suc (suc (suc (suc (suc (suc (suc n))))))))) = []
-
-pub from-next : (x : ℕ) → 1 ≤ x → x < 9 → from x ≡ x ∷ from (x + 1)
-unfolding from
-from-next zero l h = absurd (omega arith)
-from-next (suc zero) l h = refl
-from-next (suc (suc zero)) l h = refl
-from-next (suc (suc (suc zero))) l h = refl
-from-next (suc (suc (suc (suc zero)))) l h = refl
-from-next (suc (suc (suc (suc (suc zero))))) l h = refl
-from-next (suc (suc (suc (suc (suc (suc zero)))))) l h = refl
-from-next (suc (suc (suc (suc (suc (suc (suc zero))))))) l h = refl
-from-next (suc (suc (suc (suc (suc (suc (suc (suc zero)))))))) l h = refl
-from-next (suc (suc (suc (suc (suc (suc (suc (suc (suc n))))))))) l h = absurd (omega arith)
-
 pub clash-is : (a : ℕ) (g : Found) → a ≡ codeOf g → eqb a 7 ≡ isClash g
 unfolding codeOf isClash
 clash-is a absent e = rw e
@@ -177,7 +153,7 @@ pub record Seeking (t : List ℕ) (row x : ℕ) : Type 0 where
   pub is : anyOf eight (clashing t row) ≡ anyOf (from x) (clashing t row)
 
 pub seeking-none : (t : List ℕ) (row : ℕ) → Seeking t row 1
-unfolding eight from
+unfolding eight
 seeking-none t row = record { low = omega arith; high = omega arith; is = refl }
 
 module _ (t : List ℕ) (row x : ℕ) (h : Seeking t row x) where
@@ -192,5 +168,5 @@ module _ (t : List ℕ) (row x : ℕ) (h : Seeking t row x) where
   seeking-found a l k e = record { is = sym (at l true (sym (clash-is a (plainAt t row x) (k .is)) ∙ eq-eqb a 7 e)) }
 
   pub seeking-all : 9 ≤ x → Clashes t row false
-  unfolding from anyOf
+  unfolding anyOf
   seeking-all l = let e : x ≡ 9 = omega (arith, h .high) in record { is = sym (h .is ∙ ap (λ (y : ℕ). anyOf (from y) (clashing t row)) e) }

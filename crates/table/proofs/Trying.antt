@@ -9,9 +9,9 @@ use lib.Dec.{eqb}
 use lib.ListN.{length}
 use borrow.Author.Tests.{eq-eqb, ne-eqb, eqb-true, eqb-false, lt-ltb, le-ltb}
 use Rattle.meaning.specs.Basics.{if_then_else_, Cause, firstOf, whole, atRow, lowest}
-use Rattle.meaning.specs.Table.{rowsOf, fine, formAt, fault12, fault13, fault14, fault15, fault16, rowCause, tableFault, badLength, patternFault}
+use Rattle.meaning.specs.Table.{rowsOf, fault12, fault13, fault14, fault15, fault16, rowCause, tableFault, badLength, patternFault}
 use Rattle.meaning.specs.Table.{Row as RowOf}
-use Rattle.meaning.proofs.Logic.{no-true, not-false}
+use Rattle.meaning.proofs.Logic.{no-true}
 use Rattle.meaning.proofs.Causes.{lowest-some, lowest-found}
 use Rattle.meaning.proofs.Accepted.{clear}
 use Rattle.meaning.proofs.Bodies.{deep-all}
@@ -20,7 +20,7 @@ use Rattle.table.specs.Ready.{Shallow, Typable, Ready, faultBy}
 use Rattle.table.specs.Verdicts.{causeOf}
 use Rattle.table.specs.declared.causes.Verdict.{Verdict}
 use Rattle.table.specs.declared.causes.Verdict.the-variants.{Accepted, Refused}
-use Rattle.rows.proofs.Rows.{rows-length}
+use Rattle.rows.proofs.Rows.{formed-by, rows-length}
 
 -- ------------------------------------------------------------------ faulty
 module _ (n : ℕ) (t : List ℕ) (i : ℕ) (h : Ready n t) (l : i * 5 + 5 ≤ length t) where
@@ -127,6 +127,7 @@ causes-step : (t : List RowOf) (n : ℕ) → 12 ≤ n → n < 17 → causesFrom 
 unfolding causesFrom faultBy tableFault
 causes-step t = by-five (λ n. causesFrom t n ≡ firstOf (rowCause t n (faultBy n t)) (causesFrom t (n + 1))) refl refl refl refl (first-last (rowCause t 16 (fault16 t)))
 
+-- the causes from 12 up to n were tried and do not hold
 pub record Trying (t : List ℕ) (n : ℕ) : Type 0 where
   pub high : n ≤ 17
   pub ready : Ready n t
@@ -136,11 +137,7 @@ pub trying-first : (t : List ℕ) → Trying t 12
 unfolding causesFrom
 trying-first t = record { high = omega arith; ready = record { least = omega arith; formed = λ h. absurd (omega arith); shallow = λ h. absurd (omega arith) }; same = refl }
 
--- 12 found nothing: no row is malformed; 15 found nothing: no row is too deep
-pub formed-by : (t : List ℕ) → rowCause (rowsOf t) 12 (fault12 (rowsOf t)) ≡ none → Formed t
-unfolding fault12
-formed-by t e = record { ok = λ i h. not-false (fine (rowsOf t) i (formAt (rowsOf t) i)) (clear (rowsOf t) 12 (fault12 (rowsOf t)) e i h) }
-
+-- 15 found nothing: no row is too deep
 pub shallow-by : (t : List ℕ) → Formed t → rowCause (rowsOf t) 15 (fault15 (rowsOf t)) ≡ none → Shallow t
 shallow-by t f e = record { ok = deep-all (rowsOf t) (f .ok) (clear (rowsOf t) 15 (fault15 (rowsOf t)) e) }
 

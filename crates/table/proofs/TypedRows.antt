@@ -6,16 +6,16 @@ use Prim.Native.Nat.{ℕ, zero, suc, _<_, _≤_}
 use native.Mathlib.Omega.{arith}
 use lib.Dec.{eqb, leb, ltb}
 use lib.ListN.{length}
-use borrow.Author.Tests.{eq-eqb, eqb-true, eqb-false, leb-true}
+use borrow.Author.Tests.{eqb-true, eqb-false, leb-true}
 use Rattle.meaning.specs.Basics.{eight}
-use Rattle.meaning.specs.Pattern.{Pattern, Condition, conditioned, equalsConstant, equalsProperty, and, or, neg, named, inVar, inCondition}
+use Rattle.meaning.specs.Pattern.{Pattern, Condition, conditioned, and, named, inVar, inCondition}
 use Rattle.meaning.specs.Typing.{Found, clash, typeOf, fits, unionTy, concatenationTy, repetitionTy, namedTy, conditionedTy}
 use Rattle.meaning.specs.Table.{Form, Item, pattern, condition, nil, rowsOf, itemAt, formAt, fine, make, asPattern, asCondition, anyOf, isClash, isVariable, untyped, onPattern, fault16, patternRow, conditionRow, isNode, isEdge, isUnion, isConcatenation, isConditioned, isRepetition, isConstant, isProperty, isAnd, isOr, isNot, isBad}
 use Rattle.meaning.specs.Table.{Row as RowOf}
 use Rattle.meaning.proofs.Logic.{and-l, and-r, or-l, or-r, no-true, no-false, not-false}
 use Rattle.meaning.proofs.Rows.{item-is, pattern-below}
 use Rattle.meaning.proofs.Variables.{var-all}
-use Rattle.meaning.proofs.Unused.{unused→absent}
+use Rattle.meaning.proofs.Unused.{condition-variable, unused→absent}
 use Rattle.rows.specs.Rows.{Reads}
 use Rattle.rows.specs.Faults.{Formed, Tells}
 use Rattle.table.specs.Ready.{Typable}
@@ -23,15 +23,6 @@ use Rattle.table.specs.Typing.{plainOf, plainAt, FitsAt, Clashes}
 use Rattle.rows.specs.declared.row.Row.{Row}
 use Rattle.rows.proofs.Rows.{in-rows}
 use Rattle.rows.proofs.Items.{item-conditioned, form-conditioned, form-not-conditioned, isConditionedForm}
-
--- ------------------------------------------------------------------ some variable of a condition
-some-variable : (θ : Condition) → (x : ℕ) × (inCondition θ x ≡ true)
-unfolding inCondition
-some-variable (equalsConstant y k c) = (y, eq-eqb y y refl)
-some-variable (equalsProperty y k z l) = (y, or-l (eqb y y) (eqb z y) (eq-eqb y y refl))
-some-variable (and s t) = let h = some-variable s in (h .0, or-l (inCondition s (h .0)) (inCondition t (h .0)) (h .1))
-some-variable (or s t) = let h = some-variable s in (h .0, or-l (inCondition s (h .0)) (inCondition t (h .0)) (h .1))
-some-variable (neg s) = some-variable s
 
 any-at : (xs : List ℕ) (f : ℕ → Bool) (x : ℕ) → anyOf xs (λ y. eqb y x) ≡ true → f x ≡ true → anyOf xs f ≡ true
 unfolding anyOf
@@ -75,7 +66,7 @@ module _ (a : Pattern) (θ : Condition) where
     where
       go : (b : Bool) → fits (typeOf a) θ ≡ b → untyped (conditioned a θ) ≡ not b
       go true e = ap (λ (f : ℕ → Found). anyOf eight (λ x. isClash (f x))) (fun-ext (λ x. fit-type x e)) ∙ n
-      go false e = let h = some-variable θ in any-variable (λ x. isClash (typeOf (conditioned a θ) x)) (h .0) (v (h .0) (or-r (inVar a (h .0)) (inCondition θ (h .0)) (h .1))) (unfit-clash (h .0) e (h .1))
+      go false e = let h = condition-variable θ in any-variable (λ x. isClash (typeOf (conditioned a θ) x)) (h .0) (v (h .0) (or-r (inVar a (h .0)) (inCondition θ (h .0)) (h .1))) (unfit-clash (h .0) e (h .1))
 
 -- ------------------------------------------------------------------ rows
 item-untyped : (x : Item) → onPattern untyped x ≡ untyped (asPattern x)

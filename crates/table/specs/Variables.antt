@@ -11,6 +11,7 @@ use Rattle.meaning.specs.Report.{bit}
 use Rattle.typecode.specs.Codes.{codeOf}
 use Rattle.table.specs.TypeArea.{Checked}
 
+-- the bit of x
 pub record One (x r : ℕ) : Type 0 where
   pub is : r ≡ 2 ^ x
   pub small : r ≤ 256
@@ -40,13 +41,16 @@ typeAt t k = codeOf (typeOf (patternAt t (k / 8)) (k % 8 + 1))
 unfoldable pub listOf : (ℕ → ℕ) → ℕ → List ℕ
 listOf f n = each (upFrom n 0) (λ i. f i ∷ [])
 
+-- r is the type of x in the row
 pub record HasType (t : List ℕ) (row x r : ℕ) : Type 0 where
   pub is : r ≡ codeOf (typeOf (patternAt t row) x)
   pub small : r < 262144
 
+-- r is the bit of x where the row uses it, and 0 where not
 pub record Weight (t : List ℕ) (row x r : ℕ) : Type 0 where
   pub is : r ≡ bit (inVar (patternAt t row) x) * 2 ^ x
   pub small : r ≤ 256
 
+-- r are the variables of the row, as bits
 pub record HasVariables (t : List ℕ) (row r : ℕ) : Type 0 where
   pub is : r ≡ variablesAt t row

@@ -14,12 +14,14 @@ ghost use Rattle.table.specs.Ready.{Ready, faultBy};
 ghost use Rattle.table.specs.Verdicts.{causeOf, isRefused};
 ghost use Rattle.words.specs.Fault.{numberOf, rowOf};
 
+// What the check of a table answers: the number of 01 and the row.
 pub enum Verdict {
     Accepted,
     Refused { number: u64, row: u64 },
 }
 
 impl Verdict {
+    // Whether there is a cause.
     pub fn is_refused(self) -> bool
         ensures { λ r. ⌜ r ≡ isRefused (causeOf self) ⌝ }
     {

@@ -34,6 +34,7 @@ pub fn edgeless(t: &[u16], row: usize) -> bool
     }
 }
 
+// 14: a repetition over a body that can match without an edge.
 pub fn repeats_edgeless(t: &[u16], i: usize) -> bool
     requires { ⌜ Stands (now t) i ⌝ }
     ensures { λ r. ⌜ r ≡ fault14 (rowsOf (now (t .entry))) i ⌝ }
@@ -45,6 +46,7 @@ pub fn repeats_edgeless(t: &[u16], i: usize) -> bool
     false
 }
 
+// The greater of two depths.
 fn greater(a: usize, b: usize) -> usize
     ensures { λ r. ⌜ r ≡ max a b ⌝ }
 {
@@ -70,6 +72,7 @@ pub fn depth(t: &[u16], row: usize) -> usize
     }
 }
 
+// 15: a third repetition around two.
 pub fn too_deep(t: &[u16], i: usize) -> bool
     requires { ⌜ Stands (now t) i ⌝ }
     ensures { λ r. ⌜ r ≡ fault15 (rowsOf (now (t .entry))) i ⌝ }

@@ -2,11 +2,12 @@
 use crate::causes::Verdict;
 use crate::causes::check;
 use crate::typing::type_of;
+use words::clear;
 ghost use mathlib.Core.Path.{_≡_};
 ghost use mathlib.Core.List.{_++_};
 ghost use Prim.Native.Nat.{_<_, _≤_, _+_, _*_};
 ghost use lib.ListN.{length, take, drop};
-ghost use Rattle.meaning.specs.Report.{over, cleared};
+ghost use Rattle.meaning.specs.Report.{over};
 ghost use Rattle.meaning.specs.Table.{patternOf, typeWords};
 ghost use Rattle.table.specs.TypeArea.{octal, Checked, TypesLeft};
 
@@ -42,17 +43,6 @@ fn write_types(t: &[u16], types: &mut [u16])
     }
 }
 
-fn clear(types: &mut [u16])
-    requires { ⌜ 48 ≤ length (now types) ⌝ }
-    ensures { λ r. ⌜ now (types .exit) ≡ cleared 48 (now (types .entry)) ⌝ }
-{
-    let mut i: usize = 0;
-    while i < 48 {
-        types[i] = 0;
-        i += 1;
-    }
-}
-
 // 17, then 11 to 16; the types in the first 48 words.
 pub fn check_types(t: &[u16], types: &mut [u16]) -> Verdict
     ensures { λ r. ⌜ TypesLeft (now (t .entry)) (now (types .entry)) (now (types .exit)) r ⌝ }
@@ -67,7 +57,7 @@ pub fn check_types(t: &[u16], types: &mut [u16]) -> Verdict
             v
         }
         Verdict::Refused { number: _, row: _ } => {
-            clear(types);
+            clear(types, 48);
             v
         }
     }

@@ -66,6 +66,7 @@ fn fits(t: &[u16], part: usize, row: usize) -> bool
     }
 }
 
+// Whether a variable of the row has no type.
 fn clashes(t: &[u16], row: usize) -> bool
     requires { ⌜ Typable (now t) row ⌝ }
     ensures { λ r. ⌜ Clashes (now (t .entry)) row r ⌝ }
@@ -80,6 +81,7 @@ fn clashes(t: &[u16], row: usize) -> bool
     false
 }
 
+// 16: no type; a condition's fault counts at its kind 7 row.
 pub fn untyped(t: &[u16], i: usize) -> bool
     requires { ⌜ Typable (now t) i ⌝ }
     ensures { λ r. ⌜ Tells (fault16 (rowsOf (now (t .entry)))) i r ⌝ }

@@ -7,6 +7,7 @@ ghost use lib.ListN.{length, drop};
 ghost use Rattle.table.specs.TypeArea.{Checked};
 ghost use Rattle.table.specs.Variables.{One, Within, Weight, HasVariables, HasType, listOf, variablesAt, typeAt};
 
+// The bit of variable x.
 fn one(x: usize) -> u64
     requires { ⌜ x < 9 ⌝ }
     ensures { λ r. ⌜ One x r ⌝ }

@@ -17,24 +17,31 @@ codeOf absent = 0
 codeOf clash = 7
 codeOf (typed τ) = tyCode τ
 
--- what the functions on these numbers answer, for the numbers of types
+-- What the functions on these numbers answer, for the numbers of types.
+-- τ?
 pub record Opts (a r : ℕ) : Type 0 where
   pub is : (τ : Ty) → a ≡ tyCode τ → r ≡ tyCode (opt τ)
 
+-- a variable that both parts of a union type
 pub record Meets (a b r : ℕ) : Type 0 where
   pub is : (τ σ : Ty) → a ≡ tyCode τ → b ≡ tyCode σ → r ≡ codeOf (unionTy (typed τ) (typed σ))
 
+-- a variable in a union
 pub record Unites (a b r : ℕ) : Type 0 where
   pub is : (f g : Found) → a ≡ codeOf f → b ≡ codeOf g → r ≡ codeOf (unionTy f g)
 
+-- a variable in a concatenation
 pub record Joins (a b r : ℕ) : Type 0 where
   pub is : (f g : Found) → a ≡ codeOf f → b ≡ codeOf g → r ≡ codeOf (concatenationTy f g)
 
+-- a variable in a repetition
 pub record Repeats (a r : ℕ) : Type 0 where
   pub is : (f : Found) → a ≡ codeOf f → r ≡ codeOf (repetitionTy f)
 
+-- whether the type is Node or Edge
 pub record Singles (a : ℕ) (r : Bool) : Type 0 where
   pub is : (f : Found) → a ≡ codeOf f → r ≡ single f
 
+-- the type of x in a leaf that names y
 pub record Names (y x a r : ℕ) : Type 0 where
   pub is : (τ : Ty) → a ≡ tyCode τ → r ≡ codeOf (namedTy τ (named (unless 0 y) x))

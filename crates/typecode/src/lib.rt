@@ -1,15 +1,21 @@
-// A type as one number, its outermost constructor in the lowest digit to base 8; 0 not used, 7 no type.
+// A type as one number, its outermost constructor in the lowest digit to base 8; 0 not used, 7 no type. Each function promises the
+// number of the type that a rule of Figure 2 of 000 gives.
 ghost use Prim.Native.Nat.{_<_, _+_, _*_};
 ghost use Rattle.typecode.specs.Codes.{Opts, Meets, Unites, Joins, Repeats, Singles, Names};
 
+// A type's numbers, 1 to 4, are those that 01 reports.
 pub const NODE: u64 = 1;
 
+// Edge.
 pub const EDGE: u64 = 2;
 
+// Maybe of.
 pub const MAYBE: u64 = 3;
 
+// Group of.
 pub const GROUP: u64 = 4;
 
+// No type: a variable whose parts do not agree.
 pub const CLASH: u64 = 7;
 
 // Maybe of Maybe is never formed.
@@ -37,6 +43,7 @@ fn both(a: u64, b: u64) -> u64
     CLASH
 }
 
+// 000, Figure 2: a variable in one part only becomes Maybe.
 pub fn union_type(a: u64, b: u64) -> u64
     requires { ⌜ (a < 262144) × (b < 262144) ⌝ }
     ensures { λ r. ⌜ Unites a b r ⌝ }
@@ -83,6 +90,7 @@ pub fn joined_type(a: u64, b: u64) -> u64
     CLASH
 }
 
+// A repetition makes a type into Group of it.
 pub fn repeated_type(a: u64) -> u64
     requires { ⌜ a < 262144 ⌝ }
     ensures { λ r. ⌜ Repeats a r ⌝ }

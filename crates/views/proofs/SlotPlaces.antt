@@ -12,6 +12,7 @@ use borrow.Author.Tests.{eq-eqb, eqb-false, eqb-true, ne-eqb}
 use Rattle.matcher.specs.Records.{afterSlot, afterSlots, slotView, views}
 use Rattle.matcher.specs.Values.{afterFound, afterView}
 use Rattle.matcher.proofs.Places.{view-far, viewAt}
+use Rattle.meaning.proofs.Eight.{from, from-end, from-next, from-one}
 use Rattle.meaning.specs.Basics.{eight, if_then_else_}
 use Rattle.meaning.specs.Typing.{Found, absent, clash, typed}
 use Rattle.typecode.specs.Codes.{codeOf}
@@ -20,7 +21,6 @@ use Rattle.views.specs.Places.{Unplaced}
 use Rattle.views.specs.Slots.{Slot, SlotEnd, Slotted}
 use Rattle.views.proofs.Ends.{after-untyped, no-digit}
 use Rattle.views.proofs.Moves.{views-are}
-use Rattle.views.proofs.Variables.{from, from-end, from-next, from-one}
 
 -- ------------------------------------------------------------------ slot
 module _ (t place : ℕ) where

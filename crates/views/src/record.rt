@@ -1,8 +1,10 @@
 // What every part of the engine knows about the words of a record.
+use words::wide;
 ghost use mathlib.Core.Path.{_≡_};
 ghost use Prim.Native.Nat.{_+_, _*_, _<_};
 ghost use lib.ListN.{getD, length};
 
+// 01: the record type, for its associated constants and functions.
 pub struct Record {
     pub words: usize,
 }
@@ -38,12 +40,7 @@ impl Record {
     }
 }
 
-pub fn wide(x: u16) -> usize
-    ensures { λ r. ⌜ (r ≡ x) × (r < 65536) ⌝ }
-{
-    x as usize
-}
-
+// A word of the record, as a size.
 pub fn word(rec: &[u16], i: usize) -> usize
     requires { ⌜ i < length (now rec) ⌝ }
     ensures { λ r. ⌜ (r ≡ getD (now (rec .entry)) i 0) × (r < 65536) ⌝ }

@@ -6,6 +6,7 @@ ghost use Prim.Native.Nat.{_<_, _≤_};
 ghost use lib.ListN.{length, take};
 ghost use Rattle.views.specs.Slots.{Slot, SlotEnd, Slotted};
 
+// Where the values begin, and where they end.
 pub struct Slots {
     pub at: At,
     // The place after the last value, or NONE while that is not known.

@@ -56,6 +56,7 @@ pub fn type_of(types: &[u64], x: usize) -> u64
     types[x]
 }
 
+// Where the value of x ends, by its type.
 fn one_end(rec: &[u16], known: usize, types: &[u64], a: At, x: usize) -> usize
     requires { ⌜ (known ≤ length (now rec)) × (known ≤ 20000) × (x < 9) × (9 ≤ length (now types)) ⌝ }
     ensures { λ r. ⌜ EndsOne (take known (now (rec .entry))) (now (types .entry)) (a .at) x r ⌝ }

@@ -48,6 +48,7 @@ unfolding each
 each-snoc [] v = append-nil (digits 8 v)
 each-snoc (x ∷ vs) v = rw (each-snoc vs v) (sym (append-assoc (digits 8 x) (each vs (digits 8)) (digits 8 v)))
 
+-- the first i of the eight numbers v are written
 pub record Written (v d₀ d : List ℕ) (i : ℕ) : Type 0 where
   pub eight : length v ≡ 8
   pub within : i ≤ 8

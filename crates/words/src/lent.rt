@@ -1,9 +1,16 @@
-// Words of memory that the caller lends: cleared and copied.
+// Words of memory that the caller lends: read as sizes, cleared and copied.
 ghost use mathlib.Core.Path.{_≡_};
 ghost use mathlib.Core.List.{_++_};
-ghost use Prim.Native.Nat.{_+_, _≤_};
+ghost use Prim.Native.Nat.{_+_, _<_, _≤_};
 ghost use lib.ListN.{length, take, drop};
 ghost use Rattle.meaning.specs.Report.{cleared};
+
+// A word as a size: apart from the read, so that a caller need not prove that the word fits.
+pub fn wide(word: u16) -> usize
+    ensures { λ r. ⌜ (r ≡ word) × (r < 65536) ⌝ }
+{
+    word as usize
+}
 
 // The first n words are 0, and the rest is as it was.
 pub fn clear(words: &mut [u16], n: usize)

@@ -5,18 +5,21 @@ ghost use lib.ListN.{getD};
 ghost use Rattle.meaning.specs.Image.{number};
 ghost use Rattle.words.specs.Size.{Size};
 
+// The byte at a place, 0 past the end.
 fn byte_at(bytes: &[u8], at: usize) -> u8
     ensures { λ r. ⌜ r ≡ getD (now (bytes .entry)) at 0 ⌝ }
 {
     if at < bytes.len() { bytes[at] } else { 0 }
 }
 
-fn wide(byte: u8) -> u16
+// Apart from the read, as `wide` is.
+fn widened(byte: u8) -> u16
     ensures { λ r. ⌜ r ≡ byte ⌝ }
 {
     byte as u16
 }
 
+// 01: two bytes, low byte first.
 pub fn number_at(bytes: &[u8], at: usize) -> u16
     ensures { λ r. ⌜ r ≡ number (now (bytes .entry)) at ⌝ }
 {
@@ -24,8 +27,8 @@ pub fn number_at(bytes: &[u8], at: usize) -> u16
     if bytes.len() <= at {
         return 0;
     }
-    let low = wide(byte_at(bytes, at));
-    let high = wide(byte_at(bytes, at + 1));
+    let low = widened(byte_at(bytes, at));
+    let high = widened(byte_at(bytes, at + 1));
     low + 256 * high
 }
 

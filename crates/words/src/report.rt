@@ -21,6 +21,7 @@ fn write_number(report: &mut [u8], at: usize, number: u64)
     report[at + 7] = (number / 72057594037927936 % 256) as u8;
 }
 
+// The eight numbers, from the first byte on.
 fn write_numbers(report: &mut [u8], numbers: [u64; 8])
     requires { ⌜ 64 ≤ length (now report) ⌝ }
     ensures { λ _. ⌜ now (report .exit) ≡ each numbers (digits 8) ++ drop 64 (now (report .entry)) ⌝ }

@@ -11,8 +11,8 @@ returns c = search (number-past, arith)
 byte-at-requires : tie.Need-byte-at-requires
 byte-at-requires c κs = search needs
 
-wide-requires : tie.Need-wide-requires
-wide-requires c κs = search needs
+widened-requires : tie.Need-widened-requires
+widened-requires c κs = search needs
 
 add-byte-at : tie.Need-add-byte-at
 add-byte-at c = search needs
@@ -20,8 +20,8 @@ add-byte-at c = search needs
 byte-at-requires-2 : tie.Need-byte-at-requires-2
 byte-at-requires-2 c κs = search needs
 
-wide-requires-2 : tie.Need-wide-requires-2
-wide-requires-2 c κs = search needs
+widened-requires-2 : tie.Need-widened-requires-2
+widened-requires-2 c κs = search needs
 
 mul-result : tie.Need-mul-result
 mul-result c = search needs
@@ -38,10 +38,10 @@ number-at-spec =
     (tie.spec
     returns
     byte-at-requires
-    wide-requires
+    widened-requires
     add-byte-at
     byte-at-requires-2
-    wide-requires-2
+    widened-requires-2
     mul-result
     add-result
     returns-2)
