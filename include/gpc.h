@@ -8,7 +8,7 @@
  *   - A call keeps no pointer, allocates nothing and touches nothing else. There is no state between calls, so calls may run side by
  *     side on different memory.
  *   - Pieces of 16-bit words are aligned as uint16_t is.
- *   - A call takes less than GPC_STACK_BYTES of stack. That is measured where calls go deepest (200 edges, groups two deep: 168,304
+ *   - A call takes less than GPC_STACK_BYTES of stack. That is measured where calls go deepest (200 edges, groups two deep: 310,960
  *     bytes) and not proved.
  *
  * The report
@@ -28,7 +28,7 @@ extern "C" {
 #endif
 
 #define GPC_REPORT_BYTES 64    /* a report area */
-#define GPC_STACK_BYTES 262144 /* a call takes less stack */
+#define GPC_STACK_BYTES 393216 /* a call takes less stack */
 
 /* The numbers of a report by their index. */
 #define GPC_REPORT_REFUSAL 0 /* refusal number, GPC_ACCEPTED where the call was not refused */

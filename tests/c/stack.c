@@ -14,6 +14,7 @@ static size_t image_bytes;
 static uint16_t work[GPC_WORK_WORDS], rec[GPC_WORK_WORDS];
 static size_t rec_words;
 static uint8_t report[GPC_REPORT_BYTES];
+static uint16_t page[1024]; /* large enough for all that a call sets up, too small for the record */
 
 static void put(uint16_t v)
 {
@@ -92,8 +93,8 @@ static void *run(void *arg)
         c->result = gpc_judge_record(image, image_bytes, nested, sizeof nested / 2, c->restrictor, rec, rec_words, work, GPC_WORK_WORDS,
                                      report, sizeof report);
     else
-        c->result = gpc_fill_page(image, image_bytes, nested, sizeof nested / 2, c->restrictor, rec, rec_words - 2, NULL, 0, work, GPC_WORK_WORDS,
-                                  report, sizeof report);
+        c->result = gpc_fill_page(image, image_bytes, nested, sizeof nested / 2, c->restrictor, rec, rec_words - 2, page,
+                                  sizeof page / sizeof *page, work, GPC_WORK_WORDS, report, sizeof report);
     return NULL;
 }
 

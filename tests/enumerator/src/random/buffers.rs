@@ -67,6 +67,12 @@ pub fn page(source: &mut Source, next: usize) -> Vec<u16> {
     guard_words(source, length)
 }
 
+/// The same with a page for several lengths of a listing.
+pub fn lent_widely(source: &mut Source, next: usize) -> Lent {
+    let length = source.between(500, 3_000);
+    Lent { page: guard_words(source, length), ..lent(source, next) }
+}
+
 /// All that a call to fill a page is lent but the bookmark.
 pub fn lent(source: &mut Source, next: usize) -> Lent {
     Lent { page: page(source, next), work: work(source), report: report(source) }

@@ -64,6 +64,18 @@ pub fn long(source: &mut Source) -> Draft {
     draft
 }
 
+/// A directed line with a few edges more, on which simple paths part and meet; its ends have the values 1 and 2 of the first key.
+pub fn journey(source: &mut Source) -> Draft {
+    let nodes = source.between(9, 11);
+    let mut draft = line(nodes);
+    for _ in 0..source.between(1, 4) {
+        let (one, other) = (source.below(nodes), source.below(nodes));
+        draft.sections[1].push(link(source, one, other));
+    }
+    draft.sections[3] = vec![vec![0, KEYS[0], 1], vec![nodes as u16 - 1, KEYS[0], 2]];
+    draft
+}
+
 /// A directed line without labels and properties.
 pub fn line(nodes: usize) -> Draft {
     let outer = (0..nodes as u16).map(|node| vec![node]).collect();

@@ -2,7 +2,7 @@
 
 use super::cost::affordable;
 use super::source::Source;
-use super::{damage, graphs, tables};
+use super::{damage, graphs, tables, KEYS};
 use crate::listing::Listing;
 use crate::record::Record;
 
@@ -30,6 +30,29 @@ pub fn sound(source: &mut Source) -> Subject {
         let subject = Subject { image: draft.image(), pattern, restrictor };
         if affordable(&subject.image, &subject.pattern, subject.restrictor) {
             return subject;
+        }
+    }
+}
+
+/// Long paths from one node to another, each given by a property; mostly simple ones.
+pub fn journey(source: &mut Source) -> Subject {
+    let rows = [
+        [1, 1, 0, 0, 0],
+        [2, 0, 0, 0, 0],
+        [8, 1, 0, 1, 65535],
+        [6, 0, 2, 0, 0],
+        [1, 2, 0, 0, 0],
+        [6, 3, 4, 0, 0],
+        [16, 1, KEYS[0], 1, 0],
+        [16, 2, KEYS[0], 2, 0],
+        [18, 6, 7, 0, 0],
+        [7, 5, 8, 0, 0],
+    ];
+    loop {
+        let image = graphs::journey(source).image();
+        let restrictor = if source.one_in(4) { source.between(1, 4) as u64 } else { 2 };
+        if affordable(&image, &rows.concat(), restrictor) {
+            return Subject { image, pattern: rows.concat(), restrictor };
         }
     }
 }
