@@ -11,6 +11,7 @@ import walks
 
 TRAIL, SIMPLE, SHORTEST_TRAIL = 1, 2, 3
 PAGE_WORDS = 20000
+WHOLE = 2000000  # a page with room for a whole listing
 SEED = 1  # of every random graph but the flights
 FLIGHTS_ANSWERS = range(1000, 10001)
 FLIGHTS_STEPS = 2000000
@@ -63,11 +64,12 @@ def records():
 
 
 def flights():
+    """Each listing in one page, as the queries give it in one answer; the last one in pages as well."""
+    make = partial(Case, rows=patterns.between(), restrictor=SIMPLE)
     cases = []
     for seed, graph in flights_seeds(3):
-        cases.append(Case(f"flights, seed {seed}", graph, patterns.between(), SIMPLE, queries.between, walks.between, "flights"))
-    whole = Case(f"flights, seed {seed}, one page", graph, patterns.between(), SIMPLE, queries.between, walks.between, "flights", 2000000)
-    return cases + [whole]
+        cases.append(make(f"flights, seed {seed}", graph, query=queries.between, walk=walks.between, kind="flights", page_words=WHOLE))
+    return cases + [make(f"flights, seed {seed}, pages of {PAGE_WORDS:,}", graph)]
 
 
 def dense():

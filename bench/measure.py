@@ -8,9 +8,10 @@ from pathlib import Path
 
 import rivals
 
-SECONDS = 10  # the limit of another program on a case
+SECONDS = 10  # the limit of another program on a case, where the engine takes no longer than half of it
 FLIGHTS_SECONDS = 60  # there a number is wanted, not a bound
 ENGINE_SECONDS = 20
+GROWTH_RUNS = 20  # pages of a few milliseconds each, which are compared with one another
 FOLDER = Path("target/bench")
 
 
@@ -32,9 +33,9 @@ class Row:
     others: dict = field(default_factory=dict)  # name to Result, where the case can be expressed
 
 
-def engine(folder, case, most_pages=0, edges=0):
+def engine(folder, case, most_pages=0, edges=0, runs=rivals.RUNS):
     command = [FOLDER / "engine", folder / "image", folder / "pattern", case.restrictor, case.page_words, most_pages or case.most_pages,
-               ENGINE_SECONDS, rivals.RUNS, edges]
+               ENGINE_SECONDS, runs, edges]
     run = subprocess.run([str(part) for part in command], capture_output=True, text=True)
     if run.returncode:
         raise SystemExit(f"{case.name}: the engine ended with {run.returncode} {run.stdout} {run.stderr}")
@@ -58,14 +59,14 @@ def measure(case, programs, known):
     folder = FOLDER / re.sub("[^a-z0-9]+", "-", case.name).strip("-")
     case.write(folder)
     row = Row(case, engine(folder, case))
-    limit = FLIGHTS_SECONDS if case.kind == "flights" else SECONDS
+    least = max(SECONDS, 2 * row.engine.seconds)  # so that a program that is given up is known to be slower
     for program in programs:
         if not program.expresses(case):
             continue
         key = program.name, case.listing()
         if key not in known:
-            most = SECONDS if program.name == "enumerator" else limit
-            known[key] = rivals.best(lambda: program.run(case, folder, most))
+            long = case.kind == "flights" and program.name != "enumerator"
+            known[key] = rivals.best(lambda: program.run(case, folder, max(least, FLIGHTS_SECONDS) if long else least))
         row.others[program.name] = known[key]
     agree(row)
     return row
@@ -83,4 +84,4 @@ def growth(case, lengths):
     """One page of the records of so many edges, for each length."""
     folder = FOLDER / "growth"
     case.write(folder)
-    return [(edges, engine(folder, case, 1, edges)) for edges in lengths]
+    return [(edges, engine(folder, case, 1, edges, GROWTH_RUNS)) for edges in lengths]
