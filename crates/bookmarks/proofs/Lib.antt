@@ -1,0 +1,2 @@
+pub mod TurnWays
+pub mod BeyondWays
