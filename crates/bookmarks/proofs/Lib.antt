@@ -1,2 +1,5 @@
+pub mod AfterLaws
 pub mod TurnWays
+pub mod LiesWays
 pub mod BeyondWays
+pub mod CopyWays

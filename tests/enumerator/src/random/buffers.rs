@@ -67,9 +67,9 @@ pub fn page(source: &mut Source, next: usize) -> Vec<u16> {
     guard_words(source, length)
 }
 
-/// The same with a page for several lengths of a listing.
+/// The same with a page for several lengths of a listing, or so wide that the bookmark's own length is read from a trie.
 pub fn lent_widely(source: &mut Source, next: usize) -> Lent {
-    let length = source.between(500, 3_000);
+    let length = if source.one_in(3) { source.between(16_384, 17_000) } else { source.between(500, 3_000) };
     Lent { page: guard_words(source, length), ..lent(source, next) }
 }
 
