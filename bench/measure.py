@@ -12,6 +12,7 @@ SECONDS = 10  # the limit of another program on a case, where the engine takes n
 FLIGHTS_SECONDS = 60  # there a number is wanted, not a bound
 ENGINE_SECONDS = 20
 GROWTH_RUNS = 20  # pages of a few milliseconds each, which are compared with one another
+GROWTH_ROUNDS = 3  # all lengths in turn, so that what disturbs one of them for a while does not decide
 FOLDER = Path("target/bench")
 
 
@@ -84,4 +85,5 @@ def growth(case, lengths):
     """One page of the records of so many edges, for each length."""
     folder = FOLDER / "growth"
     case.write(folder)
-    return [(edges, engine(folder, case, 1, edges, GROWTH_RUNS)) for edges in lengths]
+    rounds = [[engine(folder, case, 1, edges, GROWTH_RUNS) for edges in lengths] for _ in range(GROWTH_ROUNDS)]
+    return [(edges, min(found, key=lambda result: result.seconds)) for edges, found in zip(lengths, zip(*rounds))]
