@@ -43,7 +43,7 @@ def slow_cases(rows):
 
 
 def pages(rows):
-    firsts = [row.engine.first for row in rows if row.case.page_words <= PAGE_WORDS]
+    firsts = [row.engine.first for row in rows]
     slow = slow_cases(rows)
     return [
         ("every first page under 50 ms", max(firsts) <= MOST_PAGE_SECONDS, f"{number(1e3 * max(firsts))} ms"),
