@@ -4,7 +4,7 @@ use mathlib.Core.List.{List, _++_}
 use Prim.Native.Nat.{_+_, _-_, _<_, _≤_, ℕ}
 use native.Mathlib.Omega.{arith}
 use lib.ListN.{drop, length, length-append, length-drop, take}
-use lib.Seq.{length-take-le, take-all, take-at}
+use lib.Seq.{length-take-le, take-all, take-at, take-take}
 use Rattle.bookmarks.specs.Copies.{Copied}
 
 pub copied-all : (bookmark rec₀ rec : List ℕ) → length bookmark ≤ length rec₀ → rec ≡ take 0 rec₀ ++ bookmark ++ drop (0 + length bookmark) rec₀ → Copied bookmark rec (length bookmark)
@@ -31,3 +31,11 @@ copied-part bookmark rec₀ rec h is =
       room = omega arith;
       low = λ m i j. omega arith;
     }
+
+-- the first k words of what is copied, where the bookmark has so many
+module _ {bookmark rec : List ℕ} {r : ℕ} (copied : Copied bookmark rec r) (k : ℕ) (long : k ≤ length bookmark) (room : k ≤ length rec) where
+  pub copied-known : k ≤ r
+  copied-known = copied .low k long room
+
+  pub copied-words : take k rec ≡ take k bookmark
+  copied-words = sym (take-take k r rec copied-known) ∙ (ap (take k) (copied .is) ∙ take-take k (length rec) bookmark room)
