@@ -56,12 +56,16 @@ pub fn type_of(types: &[u64], x: usize) -> u64
     types[x]
 }
 
-// Where the value of x ends, by its type.
+// Where the value of x ends, by its type, of which 0 is none: most rows have few of the variables.
 fn one_end(rec: &[u16], known: usize, types: &[u64], a: At, x: usize) -> usize
     requires { ⌜ (known ≤ length (now rec)) × (known ≤ 20000) × (x < 9) × (9 ≤ length (now types)) ⌝ }
     ensures { λ r. ⌜ EndsOne (take known (now (rec .entry))) (now (types .entry)) (a .at) x r ⌝ }
 {
-    value_end(rec, known, type_of(types, x), a.of(x))
+    let t = type_of(types, x);
+    if t == 0 {
+        return At::NONE;
+    }
+    value_end(rec, known, t, a.of(x))
 }
 
 // Where the values that begin at the places of a end; types has the type of the variable x at x.
