@@ -6,12 +6,13 @@ use mathlib.Core.Option.{none}
 use Prim.Native.Nat.{_-_, _/_, _≤_, ℕ}
 use native.Mathlib.Omega.{arith}
 use lib.ListN.{length}
-use Rattle.meaning.proofs.ImageRead.{image-read}
+use Rattle.compiled.proofs.Graphs.{valid}
+use Rattle.compiled.specs.Sound.{Lawful}
 use Rattle.meaning.specs.Answer.{Base}
 use Rattle.meaning.specs.Assignment.{Assignment}
 use Rattle.meaning.specs.Basics.{eight}
 use Rattle.meaning.specs.Graph.{Walk, len}
-use Rattle.meaning.specs.Image.{graphOf, imageFault}
+use Rattle.compiled.specs.Words.{graphIn}
 use Rattle.meaning.specs.Meaning.{Meaning}
 use Rattle.meaning.specs.Record.{places, variableWords}
 use Rattle.meaning.specs.Table.{patternFault, patternOf}
@@ -26,26 +27,26 @@ use Rattle.bounds.specs.Lengths.{GreatestLength, LeastLength}
 use Rattle.bounds.specs.Rows.{Fewest, Most}
 
 module _ (t : List ℕ) (ok : patternFault t ≡ none) where
-  pub root-some : 1 ≤ length t / 5
-  root-some = omega (arith, root-long t ok)
+  pub root-some : (k : ℕ) → k ≡ length t / 5 → 1 ≤ k
+  root-some k e = omega (arith, root-long t ok)
 
-  pub root-asked : Stands t (length t / 5 - 1)
-  root-asked = root-stands t ok
+  pub root-asked : (k : ℕ) → k ≡ length t / 5 → Stands t (k - 1)
+  root-asked k e = rw e (root-stands t ok)
 
   -- no match of the root row has the length
-  length-dead : (image : List ℕ) → imageFault image ≡ none → (b : Base) (n : ℕ) → ((p : Walk) (μ : Assignment) → Meaning (graphOf image) (patternOf t) p μ → len p ≡ n → ⊥) → Dead (n ∷ []) (baseListing image t b)
+  length-dead : (graph : List ℕ) → Lawful graph → (b : Base) (n : ℕ) → ((p : Walk) (μ : Assignment) → Meaning (graphIn graph) (patternOf t) p μ → len p ≡ n → ⊥) → Dead (n ∷ []) (baseListing graph t b)
   unfolding search-opened baseListing
-  length-dead image sound b n h = answer-dead (graphOf image) (image-read image sound .valid) (patternOf t) (root-accepted t ok .sound) (record { base = b; shortest = false }) (n ∷ []) (λ p μ a k.
+  length-dead graph sound b n h = answer-dead (graphIn graph) (valid graph sound) (patternOf t) (root-accepted t ok .sound) (record { base = b; shortest = false }) (n ∷ []) (λ p μ a k.
       h p μ (a .base-answer .means) (sym (head-is n (len p) [] (places p ++ variableWords eight μ) k)))
 
-  pub greatest-is : (r : ℕ) → Most t (length t / 5 - 1) r → GreatestLength t r
-  greatest-is r m = record {
+  pub greatest-is : (k r : ℕ) → k ≡ length t / 5 → Most t (k - 1) r → GreatestLength t r
+  greatest-is k r q m₀ = let m : Most t (length t / 5 - 1) r = rw q at m₀ in record {
     small = m .small;
-    dead = λ image sound l b n h. length-dead image sound b n (λ p μ a e. omega (arith, m .is l (graphOf image) p μ (rw (root-pattern t ok) a)));
+    dead = λ graph sound l b n h. length-dead graph sound b n (λ p μ a e. omega (arith, m .is l (graphIn graph) p μ (rw (root-pattern t ok) a)));
   }
 
-  pub least-is : (r : ℕ) → Fewest t (length t / 5 - 1) r → LeastLength t r
-  least-is r m = record {
+  pub least-is : (k r : ℕ) → k ≡ length t / 5 → Fewest t (k - 1) r → LeastLength t r
+  least-is k r q m₀ = let m : Fewest t (length t / 5 - 1) r = rw q at m₀ in record {
     small = m .small;
-    dead = λ image sound b n h. length-dead image sound b n (λ p μ a e. omega (arith, m .is (graphOf image) p μ (rw (root-pattern t ok) a)));
+    dead = λ graph sound b n h. length-dead graph sound b n (λ p μ a e. omega (arith, m .is (graphIn graph) p μ (rw (root-pattern t ok) a)));
   }

@@ -3,10 +3,11 @@ use crate::numbers::END;
 use crate::numbers::greater;
 use crate::numbers::product;
 use crate::numbers::sum;
-use rows::row_at;
+use compiled::row_at;
 ghost use Prim.Native.Nat.{_≤_};
 ghost use Rattle.rows.specs.Faults.{Stands};
 ghost use Rattle.bounds.specs.Rows.{Most, MostRepeated};
+ghost use Rattle.compiled.specs.Parts.{Tabled, tableIn};
 
 // The bound of up to n matches with at most a edges each; n: 65535 is no bound.
 fn repeated(n: usize, a: usize) -> usize
@@ -23,27 +24,27 @@ fn repeated(n: usize, a: usize) -> usize
 }
 
 // The greatest number for the row's pattern.
-pub fn most(row: usize, pat: &[u16]) -> usize
-    requires { ⌜ Stands (now pat) row ⌝ }
-    ensures { λ r. ⌜ Most (now (pat .entry)) row r ⌝ }
+pub fn most(row: usize, plan: &[u64]) -> usize
+    requires { ⌜ Tabled (now plan) × Stands (tableIn (now plan)) row ⌝ }
+    ensures { λ r. ⌜ Most (tableIn (now (plan .entry))) row r ⌝ }
 {
-    let r = row_at(pat, row);
+    let r = row_at(plan, row);
     let kind = r.kind;
     match kind {
         2..=4 => 1,
         5 => {
-            let a = most(r.p, pat);
-            let b = most(r.q, pat);
+            let a = most(r.p, plan);
+            let b = most(r.q, plan);
             greater(a, b)
         }
         6 => {
-            let a = most(r.p, pat);
-            let b = most(r.q, pat);
+            let a = most(r.p, plan);
+            let b = most(r.q, plan);
             sum(a, b)
         }
-        7 => most(r.p, pat),
+        7 => most(r.p, plan),
         8 => {
-            let a = most(r.p, pat);
+            let a = most(r.p, plan);
             repeated(r.s, a)
         }
         _ => 0,

@@ -1,23 +1,25 @@
 // The lengths that answers of an accepted table can have.
+use compiled::rows;
 use crate::fewest::least;
 use crate::greatest::most;
 ghost use mathlib.Core.Path.{_≡_};
 ghost use mathlib.Core.Option.{none};
 ghost use Rattle.meaning.specs.Table.{patternFault};
 ghost use Rattle.bounds.specs.Lengths.{GreatestLength, LeastLength};
+ghost use Rattle.compiled.specs.Parts.{Tabled, tableIn};
 
 // No answer has more edges, unless this is 65535.
-pub fn greatest_length(pat: &[u16]) -> usize
-    requires { ⌜ patternFault (now pat) ≡ none ⌝ }
-    ensures { λ r. ⌜ GreatestLength (now (pat .entry)) r ⌝ }
+pub fn greatest_length(plan: &[u64]) -> usize
+    requires { ⌜ Tabled (now plan) × (patternFault (tableIn (now plan)) ≡ none) ⌝ }
+    ensures { λ r. ⌜ GreatestLength (tableIn (now (plan .entry))) r ⌝ }
 {
-    most(pat.len() / 5 - 1, pat)
+    most(rows(plan) - 1, plan)
 }
 
 // No answer has fewer edges.
-pub fn least_length(pat: &[u16]) -> usize
-    requires { ⌜ patternFault (now pat) ≡ none ⌝ }
-    ensures { λ r. ⌜ LeastLength (now (pat .entry)) r ⌝ }
+pub fn least_length(plan: &[u64]) -> usize
+    requires { ⌜ Tabled (now plan) × (patternFault (tableIn (now plan)) ≡ none) ⌝ }
+    ensures { λ r. ⌜ LeastLength (tableIn (now (plan .entry))) r ⌝ }
 {
-    least(pat.len() / 5 - 1, pat)
+    least(rows(plan) - 1, plan)
 }

@@ -5,8 +5,7 @@ use mathlib.Core.Option.{Option, some}
 use Prim.Native.Nat.{ℕ}
 use native.Mathlib.Omega.{arith}
 use Rattle.matcher.specs.Conditions.{and3, equal3, holds3, not3, or3, propertyAt}
-use Rattle.meaning.specs.Graph.{Element}
-use Rattle.meaning.specs.Image.{graphOf}
+use Rattle.meaning.specs.Graph.{Element, Graph}
 use Rattle.meaning.specs.Pattern.{and, equalsConstant, equalsProperty, neg, or}
 use Rattle.meaning.specs.Table.{asCondition, itemAt, rowsOf}
 use Rattle.rows.specs.Faults.{Stands}
@@ -21,59 +20,59 @@ use Rattle.conditions.specs.Evaluates.{Evaluates}
 use Rattle.conditions.specs.Truth.{truthOf}
 use Rattle.conditions.proofs.ConditionRows.{and-first, and-second, condition-kind, constant-variable, first-variable, lower-item, not-row, or-first, or-second, second-variable}
 
-module _ (image t : List ℕ) (row : ℕ) (b : Bound) (r : Row) (d : Reads t row r) (st : Stands t row) (a : Truth) where
-  pub constant : r .kind ≡ 16 → (k : Binding) → bindingOf k ≡ boundOf b (r .p) → truthOf a ≡ equal3 (propertyAt (graphOf image) (bindingOf k) (r .q)) (some (some (r .r)))
-      → Evaluates image t row b a
+module _ (G : Graph) (t : List ℕ) (row : ℕ) (b : Bound) (r : Row) (d : Reads t row r) (st : Stands t row) (a : Truth) where
+  pub constant : r .kind ≡ 16 → (k : Binding) → bindingOf k ≡ boundOf b (r .p) → truthOf a ≡ equal3 (propertyAt G (bindingOf k) (r .q)) (some (some (r .r)))
+      → Evaluates G t row b a
   unfolding holds3
   constant e k ek h = record {
     is = λ θ i f v s.
         let (low, high) = constant-variable t row r d st e in
         let z : equalsConstant (r .p) (r .q) (r .r) ≡ θ = cc (item-constant t row r d (st .formed) (st .room) e) in
-        h ∙ ap (λ (x : Option Element). equal3 (propertyAt (graphOf image) x (r .q)) (some (some (r .r)))) (ek ∙ s .is (r .p) low high) ∙ ap (holds3 (graphOf image) f v) z;
+        h ∙ ap (λ (x : Option Element). equal3 (propertyAt G x (r .q)) (some (some (r .r)))) (ek ∙ s .is (r .p) low high) ∙ ap (holds3 G f v) z;
   }
 
   pub properties : r .kind ≡ 17 → (k l : Binding) → bindingOf k ≡ boundOf b (r .p) → bindingOf l ≡ boundOf b (r .r)
-      → truthOf a ≡ equal3 (propertyAt (graphOf image) (bindingOf k) (r .q)) (propertyAt (graphOf image) (bindingOf l) (r .s)) → Evaluates image t row b a
+      → truthOf a ≡ equal3 (propertyAt G (bindingOf k) (r .q)) (propertyAt G (bindingOf l) (r .s)) → Evaluates G t row b a
   unfolding holds3
   properties e k l ek el h = record {
     is = λ θ i f v s.
         let (low, high) = first-variable t row r d st e in
         let (low₂, high₂) = second-variable t row r d st e in
         let z : equalsProperty (r .p) (r .q) (r .r) (r .s) ≡ θ = cc (item-property t row r d (st .formed) (st .room) e) in
-        h ∙ ap₂ (λ (x y : Option Element). equal3 (propertyAt (graphOf image) x (r .q)) (propertyAt (graphOf image) y (r .s))) (ek ∙ s .is (r .p) low high) (el ∙ s .is (r .r) low₂ high₂)
-        ∙ ap (holds3 (graphOf image) f v) z;
+        h ∙ ap₂ (λ (x y : Option Element). equal3 (propertyAt G x (r .q)) (propertyAt G y (r .s))) (ek ∙ s .is (r .p) low high) (el ∙ s .is (r .r) low₂ high₂)
+        ∙ ap (holds3 G f v) z;
   }
 
-  module _ (x : Truth) (ex : Evaluates image t (r .p) b x) where
-    pub negation : r .kind ≡ 20 → truthOf a ≡ not3 (truthOf x) → Evaluates image t row b a
+  module _ (x : Truth) (ex : Evaluates G t (r .p) b x) where
+    pub negation : r .kind ≡ 20 → truthOf a ≡ not3 (truthOf x) → Evaluates G t row b a
     unfolding holds3
     negation e h = record {
       is = λ θ i f v s.
           let z : neg (asCondition (itemAt (rowsOf t) (r .p))) ≡ θ = cc (item-neg t row r d (st .formed) (st .room) e) in
-          h ∙ ap not3 (ex .is _ (lower-item t row (r .p) st (not-row t row r d st e)) f v s) ∙ ap (holds3 (graphOf image) f v) z;
+          h ∙ ap not3 (ex .is _ (lower-item t row (r .p) st (not-row t row r d st e)) f v s) ∙ ap (holds3 G f v) z;
     }
 
-    module _ (y : Truth) (ey : Evaluates image t (r .q) b y) where
-      pub conjunction : r .kind ≡ 18 → truthOf a ≡ and3 (truthOf x) (truthOf y) → Evaluates image t row b a
+    module _ (y : Truth) (ey : Evaluates G t (r .q) b y) where
+      pub conjunction : r .kind ≡ 18 → truthOf a ≡ and3 (truthOf x) (truthOf y) → Evaluates G t row b a
       unfolding holds3
       conjunction e h = record {
         is = λ θ i f v s.
             let first = lower-item t row (r .p) st (and-first t row r d st e) in
             let second = lower-item t row (r .q) st (and-second t row r d st e) in
             let z : and (asCondition (itemAt (rowsOf t) (r .p))) (asCondition (itemAt (rowsOf t) (r .q))) ≡ θ = cc (item-and t row r d (st .formed) (st .room) e) in
-            h ∙ ap₂ and3 (ex .is _ first f v s) (ey .is _ second f v s) ∙ ap (holds3 (graphOf image) f v) z;
+            h ∙ ap₂ and3 (ex .is _ first f v s) (ey .is _ second f v s) ∙ ap (holds3 G f v) z;
       }
 
-      pub disjunction : r .kind ≡ 19 → truthOf a ≡ or3 (truthOf x) (truthOf y) → Evaluates image t row b a
+      pub disjunction : r .kind ≡ 19 → truthOf a ≡ or3 (truthOf x) (truthOf y) → Evaluates G t row b a
       unfolding holds3
       disjunction e h = record {
         is = λ θ i f v s.
             let first = lower-item t row (r .p) st (or-first t row r d st e) in
             let second = lower-item t row (r .q) st (or-second t row r d st e) in
             let z : or (asCondition (itemAt (rowsOf t) (r .p))) (asCondition (itemAt (rowsOf t) (r .q))) ≡ θ = cc (item-or t row r d (st .formed) (st .room) e) in
-            h ∙ ap₂ or3 (ex .is _ first f v s) (ey .is _ second f v s) ∙ ap (holds3 (graphOf image) f v) z;
+            h ∙ ap₂ or3 (ex .is _ first f v s) (ey .is _ second f v s) ∙ ap (holds3 G f v) z;
       }
 
   -- a row of another kind is no condition
-  pub no-condition : (r .kind ≡ 16 → ⊥) → (r .kind ≡ 17 → ⊥) → (r .kind ≡ 18 → ⊥) → (r .kind ≡ 19 → ⊥) → (r .kind ≡ 20 → ⊥) → Evaluates image t row b a
+  pub no-condition : (r .kind ≡ 16 → ⊥) → (r .kind ≡ 17 → ⊥) → (r .kind ≡ 18 → ⊥) → (r .kind ≡ 19 → ⊥) → (r .kind ≡ 20 → ⊥) → Evaluates G t row b a
   no-condition n₁ n₂ n₃ n₄ n₅ = record { is = λ θ i f v s. let (low, high) = condition-kind t row r d st θ i in absurd (omega arith) }

@@ -4,10 +4,10 @@ use mathlib.Core.Option.{Option, none, some}
 use Prim.Native.Nat.{ℕ}
 use lib.Dec.{eqb}
 use Rattle.image.specs.Elements.{elementOf}
-use Rattle.image.specs.Values.{valueOf}
+use Rattle.compiled.specs.Values.{valueOf}
 use Rattle.image.specs.declared.ids.Element.{Element}
-use Rattle.image.specs.declared.look.Value.{Value}
-use Rattle.image.specs.declared.look.Value.the-variants as value
+use Rattle.compiled.specs.declared.look.Value.{Value}
+use Rattle.compiled.specs.declared.look.Value.the-variants as value
 use Rattle.matcher.specs.Conditions.{equal3, propertyAt}
 use Rattle.meaning.specs.Assignment.{bothEqual}
 use Rattle.meaning.specs.Graph.{Graph}

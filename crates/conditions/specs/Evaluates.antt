@@ -4,7 +4,7 @@ use mathlib.Core.List.{List}
 use Prim.Native.Nat.{ℕ}
 use Rattle.matcher.specs.Conditions.{holds3}
 use Rattle.matcher.specs.Views.{View}
-use Rattle.meaning.specs.Image.{graphOf}
+use Rattle.meaning.specs.Graph.{Graph}
 use Rattle.meaning.specs.Pattern.{Condition}
 use Rattle.meaning.specs.Table.{condition, itemAt, rowsOf}
 use Rattle.meaning.specs.Typing.{Found}
@@ -17,6 +17,6 @@ use Rattle.conditions.specs.Truth.{truthOf}
 abbrev pub ConditionIs : List ℕ → Condition → ℕ → Type 0
 ConditionIs t θ row = itemAt (rowsOf t) row ≡ condition θ
 
--- r is the model's answer for the row's condition, in the graph of the image
-pub record Evaluates (image t : List ℕ) (row : ℕ) (b : Bound) (r : Truth) : Type 0 where
-  pub is : (θ : Condition) → ConditionIs t θ row → (f : ℕ → Found) (v : View) → Binds b f v → truthOf r ≡ holds3 (graphOf image) f v θ
+-- r is the model's answer for the row's condition, in the graph
+pub record Evaluates (G : Graph) (t : List ℕ) (row : ℕ) (b : Bound) (r : Truth) : Type 0 where
+  pub is : (θ : Condition) → ConditionIs t θ row → (f : ℕ → Found) (v : View) → Binds b f v → truthOf r ≡ holds3 G f v θ

@@ -6,32 +6,33 @@ use crate::truth::Truth;
 use crate::truth::conjoined;
 use crate::truth::disjoined;
 use crate::truth::negated;
-use image::Sections;
-use rows::row_at;
-ghost use Rattle.image.specs.Sections.{Checked};
+use compiled::row_at;
+ghost use Rattle.compiled.specs.Sound.{Lawful};
+ghost use Rattle.compiled.specs.Words.{graphIn};
 ghost use Rattle.rows.specs.Faults.{Stands};
 ghost use Rattle.conditions.specs.Evaluates.{Evaluates};
+ghost use Rattle.compiled.specs.Parts.{Tabled, tableIn};
 
 // The truth of the row's condition, open where it hangs on an element that is not known.
-pub fn condition(image: &[u8], s: Sections, pat: &[u16], row: usize, b: Bound) -> Truth
-    requires { ⌜ Checked (now image) s ⌝ }
-    requires { ⌜ Stands (now pat) row ⌝ }
-    ensures { λ r. ⌜ Evaluates (now (image .entry)) (now (pat .entry)) row b r ⌝ }
+pub fn condition(graph: &[u64], plan: &[u64], row: usize, b: Bound) -> Truth
+    requires { ⌜ Lawful (now graph) ⌝ }
+    requires { ⌜ Tabled (now plan) × Stands (tableIn (now plan)) row ⌝ }
+    ensures { λ r. ⌜ Evaluates (graphIn (now (graph .entry))) (tableIn (now (plan .entry))) row b r ⌝ }
 {
-    let r = row_at(pat, row);
+    let r = row_at(plan, row);
     let kind = r.kind;
     match kind {
-        16 => equal_constant(image, s, b.of(r.p), r.q as u16, r.r as u16),
-        17 => equal_properties(image, s, b.of(r.p), r.q as u16, b.of(r.r), r.s as u16),
+        16 => equal_constant(graph, b.of(r.p), r.q as u16, r.r as u64),
+        17 => equal_properties(graph, b.of(r.p), r.q as u16, b.of(r.r), r.s as u16),
         18 => conjoined(
-            condition(image, s, pat, r.p, b),
-            condition(image, s, pat, r.q, b),
+            condition(graph, plan, r.p, b),
+            condition(graph, plan, r.q, b),
         ),
         19 => disjoined(
-            condition(image, s, pat, r.p, b),
-            condition(image, s, pat, r.q, b),
+            condition(graph, plan, r.p, b),
+            condition(graph, plan, r.q, b),
         ),
-        20 => negated(condition(image, s, pat, r.p, b)),
+        20 => negated(condition(graph, plan, r.p, b)),
         _ => Truth::Open,
     }
 }

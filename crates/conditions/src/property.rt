@@ -4,13 +4,12 @@
 use crate::bound::Binding;
 use crate::truth::Truth;
 use crate::truth::truth_of;
-use image::Sections;
-use image::Value;
+use compiled::Value;
 ghost use mathlib.Core.Path.{_≡_};
 ghost use mathlib.Core.Option.{some};
-ghost use Rattle.image.specs.Sections.{Checked};
+ghost use Rattle.compiled.specs.Sound.{Lawful};
 ghost use Rattle.matcher.specs.Conditions.{equal3, propertyAt};
-ghost use Rattle.meaning.specs.Image.{graphOf};
+ghost use Rattle.compiled.specs.Words.{graphIn};
 ghost use Rattle.conditions.specs.Bound.{bindingOf};
 ghost use Rattle.conditions.specs.Property.{knownOf};
 ghost use Rattle.conditions.specs.Truth.{truthOf};
@@ -19,17 +18,17 @@ ghost use Rattle.conditions.specs.Truth.{truthOf};
 pub enum Property {
     Open,
     Absent,
-    Found(u16),
+    Found(u64),
 }
 
 // The property of an element that may not be known.
-fn property_at(image: &[u8], s: Sections, x: Binding, key: u16) -> Property
-    requires { ⌜ Checked (now image) s ⌝ }
-    ensures { λ r. ⌜ knownOf r ≡ propertyAt (graphOf (now (image .entry))) (bindingOf x) key ⌝ }
+fn property_at(graph: &[u64], x: Binding, key: u16) -> Property
+    requires { ⌜ Lawful (now graph) ⌝ }
+    ensures { λ r. ⌜ knownOf r ≡ propertyAt (graphIn (now (graph .entry))) (bindingOf x) key ⌝ }
 {
     match x {
         Binding::Unknown => Property::Open,
-        Binding::To(e) => match image::property(image, s, e, key) {
+        Binding::To(e) => match compiled::property(graph, e, key) {
             Value::Found(w) => Property::Found(w),
             Value::Absent => Property::Absent,
         },
@@ -37,7 +36,7 @@ fn property_at(image: &[u8], s: Sections, x: Binding, key: u16) -> Property
 }
 
 // An absent property equals nothing, not even another absent one.
-fn equals_value(a: Property, w: u16) -> Truth
+fn equals_value(a: Property, w: u64) -> Truth
     ensures { λ r. ⌜ truthOf r ≡ equal3 (knownOf a) (some (some w)) ⌝ }
 {
     match a {
@@ -63,26 +62,19 @@ fn equal(a: Property, b: Property) -> Truth
 }
 
 // Kind 16.
-pub fn equal_constant(image: &[u8], s: Sections, x: Binding, key: u16, w: u16) -> Truth
-    requires { ⌜ Checked (now image) s ⌝ }
-    ensures { λ r. ⌜ truthOf r ≡ equal3 (propertyAt (graphOf (now (image .entry))) (bindingOf x) key) (some (some w)) ⌝ }
+pub fn equal_constant(graph: &[u64], x: Binding, key: u16, w: u64) -> Truth
+    requires { ⌜ Lawful (now graph) ⌝ }
+    ensures { λ r. ⌜ truthOf r ≡ equal3 (propertyAt (graphIn (now (graph .entry))) (bindingOf x) key) (some (some w)) ⌝ }
 {
-    equals_value(property_at(image, s, x, key), w)
+    equals_value(property_at(graph, x, key), w)
 }
 
 // Kind 17.
-pub fn equal_properties(
-    image: &[u8],
-    s: Sections,
-    x: Binding,
-    key: u16,
-    y: Binding,
-    other: u16,
-) -> Truth
-    requires { ⌜ Checked (now image) s ⌝ }
-    ensures { λ r. ⌜ truthOf r ≡ equal3 (propertyAt (graphOf (now (image .entry))) (bindingOf x) key) (propertyAt (graphOf (now (image .entry))) (bindingOf y) other) ⌝ }
+pub fn equal_properties(graph: &[u64], x: Binding, key: u16, y: Binding, other: u16) -> Truth
+    requires { ⌜ Lawful (now graph) ⌝ }
+    ensures { λ r. ⌜ truthOf r ≡ equal3 (propertyAt (graphIn (now (graph .entry))) (bindingOf x) key) (propertyAt (graphIn (now (graph .entry))) (bindingOf y) other) ⌝ }
 {
-    let a = property_at(image, s, x, key);
-    let b = property_at(image, s, y, other);
+    let a = property_at(graph, x, key);
+    let b = property_at(graph, y, other);
     equal(a, b)
 }

@@ -10,6 +10,9 @@ mod lowest;
 mod reader;
 mod sections;
 
+pub use cells::edge_cell;
+pub use cells::label_cell;
+pub use cells::property_cell;
 pub use ids::EdgeId;
 pub use ids::Element;
 pub use ids::NodeId;

@@ -28,7 +28,9 @@ use Rattle.meaning.specs.Graph.{Graph, InGraph, Walk, len, src, tgt}
 use Rattle.meaning.specs.Image.{edgeCount, edgeRow, graphOf, nodeCount}
 use Rattle.meaning.specs.Pattern.{Pattern}
 use Rattle.meaning.specs.Table.{patternOf}
+use Rattle.compiled.specs.Words.{graphIn, nodesIn}
 use Rattle.path.specs.Masks.{baseIf}
+use Rattle.promises.specs.Prepared.{Source}
 use Rattle.search.specs.Joined.{Joins, NoneBelow}
 use Rattle.judge.specs.Judging.{JudgedAnswer, NodesBelow, NoneShorter, RepeatsNothing, Small, Told, told}
 use Rattle.judge.proofs.Restrictors.{base-is, from-one, is-shortest, not-shortest, to-four}
@@ -92,13 +94,11 @@ module _ (image t : List ℕ) (n : ℕ) (rec : List ℕ) (last : ℕ) (ok : fixe
     base-test : judgeWords G eight π rec ≡ true → r ≡ unrepeated (restrictorOf n .base) (pathIn rec)
     base-test j = p .is (small below j) ∙ (ap (λ (q : Walk). unrepeated (baseIf (eqb (n % 2) 0)) q) (sym path-is) ∙ ap (λ (b : Base). unrepeated b (pathIn rec)) (sym base-of))
 
-    pub repeated : r ≡ false → JudgedAnswer image t n rec false
-    repeated e = record { is = λ j. sym (is-false (judge image t n rec) (λ q. no-true (sym (taken q .repeats-nothing) ∙ (sym (base-test j) ∙ e)))) }
+    repeated-of : r ≡ false → judgeWords G eight π rec ≡ true → false ≡ judge image t n rec
+    repeated-of e j = sym (is-false (judge image t n rec) (λ q. no-true (sym (taken q .repeats-nothing) ∙ (sym (base-test j) ∙ e))))
 
-    pub any-length : r ≡ true → n < 3 → JudgedAnswer image t n rec true
-    any-length e l = record {
-      is = λ j. sym (given (record { yes = j; repeats-nothing = sym (base-test j) ∙ e; shortest = rw (not-shortest n (from-one image t n ok) l) tt }));
-    }
+    any-of : r ≡ true → n < 3 → judgeWords G eight π rec ≡ true → true ≡ judge image t n rec
+    any-of e l j = sym (given (record { yes = j; repeats-nothing = sym (base-test j) ∙ e; shortest = rw (not-shortest n (from-one image t n ok) l) tt }))
 
     src-is : src (told rec last) ≡ getD rec 1 0
     src-is = subpath-src (nodeWord (drop 1 rec)) (edgeWord (drop 1 rec)) 0 last ∙ node-word rec 0
@@ -120,16 +120,34 @@ module _ (image t : List ℕ) (n : ℕ) (rec : List ℕ) (last : ℕ) (ok : fixe
         let k : Shortest true G (baseIf (eqb (n % 2) 0)) π (told rec last) = rw (is-shortest n l (to-four image t n ok), base-of, path-is) at (h .shortest) in
         omega (arith, k (j .path) (j .assignment) (j .answer) (j .source-is ∙ sym src-is) (j .target-is ∙ sym tgt-is), j .length-is, len-is)
 
-    pub shortest-is : (x : Bool) → r ≡ true → 3 ≤ n → NoneShorter image t (eqb (n % 2) 0) last (getD rec 1 0) (getD rec (2 * last + 1) 0) x → JudgedAnswer image t n rec x
-    shortest-is x e l s = record { is = λ j. go j x s }
+    shortest-of : (x : Bool) → r ≡ true → 3 ≤ n → NoneShorter (graphOf image) t (eqb (n % 2) 0) last (getD rec 1 0) (getD rec (2 * last + 1) 0) x → judgeWords G eight π rec ≡ true → x ≡ judge image t n rec
+    shortest-of x e l s j = go j x s
       where
-        go : judgeWords G eight π rec ≡ true → (x : Bool) → NoneShorter image t (eqb (n % 2) 0) last (getD rec 1 0) (getD rec (2 * last + 1) 0) x → x ≡ judge image t n rec
+        go : judgeWords G eight π rec ≡ true → (x : Bool) → NoneShorter (graphOf image) t (eqb (n % 2) 0) last (getD rec 1 0) (getD rec (2 * last + 1) 0) x → x ≡ judge image t n rec
         go j true s = sym (given (record { yes = j; repeats-nothing = sym (base-test j) ∙ e; shortest = rw (is-shortest n l (to-four image t n ok), base-of, path-is) (least (s .yes-is refl)) }))
         go j false s = let k = s .no-is refl in sym (is-false (judge image t n rec) (λ q. beaten l (k .0) (k .1) (k .2) (taken q)))
 
-  -- ------------------------------------------------------------------ the ends of the path
-  pub first-node : NodesBelow rec last (nodeCount image) → getD rec 1 0 < nodeCount image
-  first-node b = b .node 0 (omega arith)
+-- ------------------------------------------------------------------ by the compiled graph
+pub nodes-same : (graph image : List ℕ) → graphIn graph ≡ graphOf image → nodesIn graph ≡ nodeCount image
+unfolding graphIn graphOf
+nodes-same graph image e = ap (λ (G : Graph). G .nodes) e
 
-  pub last-node : NodesBelow rec last (nodeCount image) → getD rec (2 * last + 1) 0 < 256
-  last-node b = let m : nodeCount image ≤ 200 = granted image t n ok .read .few-nodes in omega (arith, b .node last (omega arith))
+module _ (graph t : List ℕ) (n : ℕ) (rec : List ℕ) (last : ℕ) (T : Told rec last) (below : NodesBelow rec last (nodesIn graph)) (r : Bool) (p : RepeatsNothing rec last (eqb (n % 2) 0) r) where
+  below-in : (image : List ℕ) → graphIn graph ≡ graphOf image → NodesBelow rec last (nodeCount image)
+  below-in image e = rw (nodes-same graph image e) at below
+
+  pub repeated : r ≡ false → JudgedAnswer (graphIn graph) t n rec false
+  repeated z = record { is = λ image e ok j. repeated-of image t n rec last ok T (below-in image e) r p z (rw e at j) }
+
+  pub any-length : r ≡ true → n < 3 → JudgedAnswer (graphIn graph) t n rec true
+  any-length z l = record { is = λ image e ok j. any-of image t n rec last ok T (below-in image e) r p z l (rw e at j) }
+
+  pub shortest-is : (x : Bool) → r ≡ true → 3 ≤ n → NoneShorter (graphIn graph) t (eqb (n % 2) 0) last (getD rec 1 0) (getD rec (2 * last + 1) 0) x → JudgedAnswer (graphIn graph) t n rec x
+  shortest-is x z l s = record { is = λ image e ok j. shortest-of image t n rec last ok T (below-in image e) r p x z l (rw e at s) (rw e at j) }
+
+-- ------------------------------------------------------------------ the ends of the path
+pub first-node : (graph rec : List ℕ) (last : ℕ) → NodesBelow rec last (nodesIn graph) → getD rec 1 0 < nodesIn graph
+first-node graph rec last b = b .node 0 (omega arith)
+
+pub last-node : (graph t plan rec : List ℕ) (last : ℕ) → Source graph t plan → NodesBelow rec last (nodesIn graph) → getD rec (2 * last + 1) 0 < 256
+last-node graph t plan rec last h b = omega (arith, b .node last (omega arith), h .accepted .lawful .few-nodes)

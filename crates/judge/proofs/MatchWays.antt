@@ -17,7 +17,7 @@ use Rattle.matcher.specs.Records.{afterSlots, recordEnds}
 use Rattle.matcher.specs.Values.{skip}
 use Rattle.matcher.specs.Views.{isFrontier}
 use Rattle.meaning.specs.Basics.{eight}
-use Rattle.meaning.specs.Image.{graphOf}
+use Rattle.compiled.specs.Words.{graphIn}
 use Rattle.meaning.specs.Table.{patternOf}
 use Rattle.meaning.specs.Typing.{typeOf}
 use Rattle.plan.proofs.RowOfTable.{ready-is, row-is}
@@ -33,32 +33,35 @@ at-end-frontier none = refl
 at-end-frontier (some []) = refl
 at-end-frontier (some (w ∷ ws)) = refl
 
-module _ (image t fit plan rec : List ℕ) (last : ℕ) (h : Prepared image t fit plan rec (length rec) last) where
+module _ (graph t fit plan rec : List ℕ) (last : ℕ) (h : Prepared graph t fit plan rec (length rec) last) where
   -- the last row of the table
   root-room : (1 ≤ length t / 5) × (length t / 5 - 1 < 64)
-  root-room = let r : Ready image t fit plan rec (length rec) last (length t / 5 - 1) = ready-is image t fit plan rec (length rec) last h in (omega (arith, r .1 .0), r .1 .1)
+  root-room = let r : Ready graph t fit plan rec (length rec) last (length t / 5 - 1) = ready-is graph t fit plan rec (length rec) last h in (omega (arith, r .1 .0), r .1 .1)
 
-  pub some-row : 1 ≤ length t / 5
-  some-row = root-room .0
+  pub some-row : (k : ℕ) → k ≡ length t / 5 → 1 ≤ k
+  some-row k e = omega (arith, root-room .0)
 
-  pub row-few : length t / 5 - 1 < 64
-  row-few = root-room .1
+  pub row-few : (k : ℕ) → k ≡ length t / 5 → k - 1 < 64
+  row-few k e = omega (arith, root-room .1)
 
-  module _ (at : List ℕ) (end : ℕ) (s : Slotted (take (length rec) rec) (drop (8 * (length t / 5 - 1) + 63) plan) (2 * last + 2) at end) where
+  module _ (k : ℕ) (k-is : k ≡ length t / 5) (at : List ℕ) (end : ℕ) (s₀ : Slotted (take (length rec) rec) (drop (8 * (k - 1) + 391) plan) (2 * last + 2) at end) where
+    s : Slotted (take (length rec) rec) (drop (8 * (length t / 5 - 1) + 391) plan) (2 * last + 2) at end
+    s = rw k-is at s₀
+
     -- the values end where the words end
     ends-there : atEnd (afterSlots eight (typeOf (patternOf t)) (skip (2 * last + 1) (drop 1 rec))) ≡ eqb end (length rec)
     ends-there =
         let f = typeOf (patternOf t) in
         let k : take (length rec) rec ≡ rec = take-length rec in
-        let e : viewAt rec end ≡ afterSlots eight f (viewAt rec (2 * last + 2)) = rw k at (s .ends f (λ x low high. getD-drop (8 * root t + 63) plan x 0 ∙ row-is image t fit plan rec (length rec) last h .planned .types x low high)) in
+        let e : viewAt rec end ≡ afterSlots eight f (viewAt rec (2 * last + 2)) = rw k at (s .ends f (λ x low high. getD-drop (8 * root t + 391) plan x 0 ∙ row-is graph t fit plan rec (length rec) last h .planned .types x low high)) in
         ap (λ (o : Option (List ℕ)). atEnd (afterSlots eight f o)) (sym (skip-first rec (2 * last) (omega (arith, h .path-known))))
         ∙ (ap atEnd (sym e) ∙ (at-end-frontier (viewAt rec end) ∙ view-frontier rec end))
 
-    pub match-ends : (r : Bool) → end ≡ length rec → PathEnds image t rec (length rec) last r → Matches image t rec last r
+    pub match-ends : (r : Bool) → end ≡ length rec → PathEnds graph t rec (length rec) last r → Matches (graphIn graph) t rec last r
     match-ends r e p = record {
-      is = p .is ∙ (ap (λ (l : List ℕ). recordEnds (graphOf image) eight (patternOf t) last (drop 1 l) last) (take-length rec)
-          ∙ sym (ap (λ (b : Bool). b && recordEnds (graphOf image) eight (patternOf t) last (drop 1 rec) last) (ends-there ∙ eq-eqb end (length rec) e)));
+      is = p .is ∙ (ap (λ (l : List ℕ). recordEnds (graphIn graph) eight (patternOf t) last (drop 1 l) last) (take-length rec)
+          ∙ sym (ap (λ (b : Bool). b && recordEnds (graphIn graph) eight (patternOf t) last (drop 1 rec) last) (ends-there ∙ eq-eqb end (length rec) e)));
     }
 
-    pub match-no : (end ≡ length rec → ⊥) → Matches image t rec last false
-    match-no n = record { is = sym (ap (λ (b : Bool). b && recordEnds (graphOf image) eight (patternOf t) last (drop 1 rec) last) (ends-there ∙ ne-eqb end (length rec) n)) }
+    pub match-no : (end ≡ length rec → ⊥) → Matches (graphIn graph) t rec last false
+    match-no n = record { is = sym (ap (λ (b : Bool). b && recordEnds (graphIn graph) eight (patternOf t) last (drop 1 rec) last) (ends-there ∙ ne-eqb end (length rec) n)) }

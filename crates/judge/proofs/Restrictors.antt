@@ -15,18 +15,17 @@ use Rattle.meaning.specs.FullListing.{fixedFault}
 use Rattle.meaning.specs.Image.{imageFault}
 use Rattle.meaning.specs.Table.{patternFault}
 use Rattle.path.specs.Masks.{baseIf}
-use Rattle.promises.specs.Prepared.{Accepted}
 
 module _ (image t : List ℕ) (n : ℕ) (ok : fixedFault image t n ≡ none) where
-  pub accepted-both : Accepted image t
+  pub image-accepted : imageFault image ≡ none
   unfolding fixedFault
-  accepted-both =
-      let last : Cause = whole 21 (not (leb 1 n && leb n 4)) in
-      let i = first-none (imageFault image) (firstOf (patternFault t) last) ok in
-      record { image-is = i .0; table-is = first-none (patternFault t) last (i .1) .0 }
+  image-accepted = first-none (imageFault image) (firstOf (patternFault t) (whole 21 (not (leb 1 n && leb n 4)))) ok .0
 
   pub pattern-accepted : patternFault t ≡ none
-  pattern-accepted = accepted-both .table-is
+  unfolding fixedFault
+  pattern-accepted =
+      let last : Cause = whole 21 (not (leb 1 n && leb n 4)) in
+      first-none (patternFault t) last (first-none (imageFault image) (firstOf (patternFault t) last) ok .1) .0
 
   in-range : (leb 1 n && leb n 4) ≡ true
   unfolding fixedFault

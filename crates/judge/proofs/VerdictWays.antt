@@ -8,7 +8,10 @@ use native.Mathlib.Omega.{arith}
 use lib.Dec.{ltb}
 use lib.ListN.{drop, getD, length}
 use borrow.Author.Tests.{lt-ltb, ltb-true}
-use Rattle.image.specs.Sections.{Laid}
+use Rattle.compiled.specs.Copies.{Compiled}
+use Rattle.compiled.specs.Parts.{tableIn}
+use Rattle.compiled.specs.Words.{graphIn, nodesIn}
+use Rattle.image.specs.Sections.{Checked, Laid}
 use Rattle.image.specs.declared.sections.Sections.{Sections}
 use Rattle.matcher.proofs.Listed.{listed-iff}
 use Rattle.matcher.proofs.Opened.{matcher-opened}
@@ -24,14 +27,16 @@ use Rattle.meaning.proofs.Logic.{and-l, and-r, is-false, no-true}
 use Rattle.meaning.specs.Assignment.{Assignment}
 use Rattle.meaning.specs.Basics.{eight}
 use Rattle.meaning.specs.FullListing.{fixedFault, judge}
-use Rattle.meaning.specs.Graph.{Walk, len}
+use Rattle.meaning.specs.Graph.{Graph, Walk, len}
 use Rattle.meaning.specs.Image.{graphOf, nodeCount}
 use Rattle.meaning.specs.Record.{recordOf}
-use Rattle.meaning.specs.Table.{patternOf}
+use Rattle.meaning.specs.Table.{patternFault, patternOf}
 use Rattle.meaning.specs.Typing.{typeOf}
+use Rattle.plan.specs.Fitted.{PlanFilled}
 use Rattle.promises.specs.Prepared.{FitIs, PlanIs, Prepared, Source}
-use Rattle.judge.specs.Judging.{JudgedAnswer, Judges, Matches, NodesBelow, NodesWithin, Told}
-use Rattle.judge.proofs.Restrictors.{accepted-both}
+use Rattle.judge.specs.Judging.{JudgedAnswer, Judges, JudgesIn, Matches, NodesBelow, NodesWithin, Told}
+use Rattle.judge.proofs.Restrictors.{image-accepted}
+use Rattle.judge.proofs.AnswerWays.{nodes-same}
 use Rattle.judge.proofs.ToldWords.{judge-words, node-word}
 
 first-word : (p : Walk) (μ : Assignment) → getD (recordOf p μ) 0 0 ≡ len p
@@ -95,25 +100,35 @@ module _ (image t : List ℕ) (n : ℕ) (rec : List ℕ) (ok : fixedFault image 
     nodes-in s r d w e = rw (d .nodes) at (w .yes-is e)
 
     -- ---------------------------------------------------------------- the values
-    pub no-match : (r : Bool) → Matches image t rec last r → r ≡ false → Judges image t n rec false
+    no-match-of : (r : Bool) → Matches (graphOf image) t rec last r → r ≡ false → Judges image t n rec false
     unfolding words-test
-    no-match r m e = refused (λ q.
+    no-match-of r m e = refused (λ q.
         let A : Bool = ltb last 65535 && allBelow (suc last) nodes-test in
         no-true (sym (and-r A words-test (sym judge-parts ∙ judged-words q)) ∙ (sym (m .is) ∙ e)))
 
-    pub matched : (r x : Bool) → NodesBelow rec last (nodeCount image) → Matches image t rec last r → r ≡ true → JudgedAnswer image t n rec x → Judges image t n rec x
+    matched-of : (r x : Bool) → NodesBelow rec last (nodeCount image) → Matches (graphOf image) t rec last r → r ≡ true → (judgeWords (graphOf image) eight (patternOf t) rec ≡ true → x ≡ judge image t n rec) → Judges image t n rec x
     unfolding words-test nodes-test graphOf
-    matched r x b m e h = record {
-      is = h .is (judge-parts ∙ and-both (and-both (lt-ltb last 65535 (omega (arith, T .few)))
+    matched-of r x b m e h = record {
+      is = h (judge-parts ∙ and-both (and-both (lt-ltb last 65535 (omega (arith, T .few)))
           (all-below← (suc last) nodes-test (λ i l. lt-ltb (nodeWord (drop 1 rec) i) (nodeCount image) (omega (arith, b .node i (omega arith), node-word rec i))))) (sym (m .is) ∙ e));
     }
 
-  pub source-is : (s : Sections) → Laid image s → Source image t s
-  source-is s d = record { accepted = accepted-both image t n ok; laid = d }
+  pub image-checked : (s : Sections) → Laid image s → Checked image s
+  image-checked s d = record { laid = d; sound = image-accepted image t n ok }
 
-pub prepared-is : (image t fit plan rec : List ℕ) (last : ℕ) (s : Sections) → Source image t s → PlanIs image t plan → FitIs image t fit rec last → Told rec last → 401 ≤ length fit → Prepared image t fit plan rec (length rec) last
-prepared-is image t fit plan rec last s d p f T l = record {
-  accepted = d .accepted;
+-- ------------------------------------------------------------------ by the compiled graph
+module _ (graph t : List ℕ) (n : ℕ) (rec : List ℕ) (last : ℕ) (T : Told rec last) where
+  pub no-match : (r : Bool) → Matches (graphIn graph) t rec last r → r ≡ false → JudgesIn (graphIn graph) t n rec false
+  no-match r m z = record { is = λ image e ok. no-match-of image t n rec ok last T r (rw e at m) z .is }
+
+  pub matched : (r x : Bool) → NodesBelow rec last (nodesIn graph) → Matches (graphIn graph) t rec last r → r ≡ true → JudgedAnswer (graphIn graph) t n rec x → JudgesIn (graphIn graph) t n rec x
+  matched r x b m z h = record {
+    is = λ image e ok. matched-of image t n rec ok last T r x (rw (nodes-same graph image e) at b) (rw e at m) z (λ j. h .is image e ok (ap (λ (G : Graph). judgeWords G eight (patternOf t) rec) e ∙ j)) .is;
+  }
+
+pub prepared-is : (graph t fit plan rec : List ℕ) (last : ℕ) → Source graph t plan → PlanIs graph t plan → FitIs graph t fit rec last → Told rec last → 401 ≤ length fit → Prepared graph t fit plan rec (length rec) last
+prepared-is graph t fit plan rec last d p f T l = record {
+  source = d;
   plan-is = p;
   fit-is = f;
   short = T .few;
@@ -122,3 +137,21 @@ prepared-is image t fit plan rec last s d p f T l = record {
   known-room = omega arith;
   known-most = T .short;
 }
+
+-- ------------------------------------------------------------------ what a call was compiled to
+module _ (image t : List ℕ) (n : ℕ) (graph plan₀ : List ℕ) (c : Compiled image t n graph plan₀) where
+  pub source-of : Source graph t plan₀
+  source-of = record { accepted = record { lawful = c .sound .graph; table-is = ap patternFault (sym (c .table-is)) ∙ c .sound .accepted }; tabled = c .sound .table; table-is = c .table-is }
+
+  pub nodes-below : (rec : List ℕ) (last : ℕ) → NodesBelow rec last (nodeCount image) → NodesBelow rec last (nodesIn graph)
+  nodes-below rec last b = rw (nodes-same graph image (c .graph-is)) b
+
+  module _ (plan : List ℕ) (p : PlanFilled graph t plan₀ plan) where
+    pub source-is : Source graph (tableIn plan) plan
+    source-is = rw (p .source .table-is) (p .source)
+
+    pub plan-is : PlanIs graph (tableIn plan) plan
+    plan-is = rw (p .source .table-is) (p .is)
+
+    pub call-judged : (rec : List ℕ) (r : Bool) → fixedFault image t n ≡ none → JudgesIn (graphIn graph) (tableIn plan) n rec r → Judges image t n rec r
+    call-judged rec r ok j₀ = let j : JudgesIn (graphIn graph) t n rec r = rw (p .source .table-is) at j₀ in record { is = j .is image (c .graph-is) ok }

@@ -1,6 +1,7 @@
 -- What the parts of the judge promise. rec are the words that are judged; last is the number of edges of the path that they tell.
 use mathlib.Core.Path.{_≡_}
 use mathlib.Core.List.{List}
+use mathlib.Core.Option.{none}
 use mathlib.Core.Bool.{Bool, _&&_, false, true}
 use Prim.Native.Nat.{_*_, _+_, _<_, _≤_, ℕ}
 use lib.ListN.{drop, getD, length}
@@ -9,8 +10,8 @@ use Rattle.matcher.specs.Records.{afterSlots, edgeWord, nodeWord, recordEnds}
 use Rattle.matcher.specs.Search.{subpath}
 use Rattle.matcher.specs.Values.{skip}
 use Rattle.meaning.specs.Basics.{eight}
-use Rattle.meaning.specs.FullListing.{judge}
-use Rattle.meaning.specs.Graph.{Walk}
+use Rattle.meaning.specs.FullListing.{fixedFault, judge}
+use Rattle.meaning.specs.Graph.{Graph, Walk}
 use Rattle.meaning.specs.Image.{graphOf}
 use Rattle.meaning.specs.Table.{patternOf}
 use Rattle.meaning.specs.Typing.{typeOf}
@@ -46,18 +47,22 @@ pub record RepeatsNothing (rec : List ℕ) (last : ℕ) (b r : Bool) : Type 0 wh
   pub is : Small rec last → r ≡ unrepeated (baseIf b) (told rec last)
 
 -- r tells whether the values end where the words end, and the path's end is an end of a match with them
-pub record Matches (image t rec : List ℕ) (last : ℕ) (r : Bool) : Type 0 where
-  pub is : r ≡ (atEnd (afterSlots eight (typeOf (patternOf t)) (skip (2 * last + 1) (drop 1 rec))) && recordEnds (graphOf image) eight (patternOf t) last (drop 1 rec) last)
+pub record Matches (G : Graph) (t rec : List ℕ) (last : ℕ) (r : Bool) : Type 0 where
+  pub is : r ≡ (atEnd (afterSlots eight (typeOf (patternOf t)) (skip (2 * last + 1) (drop 1 rec))) && recordEnds G eight (patternOf t) last (drop 1 rec) last)
 
 -- r tells whether no answer of the base with fewer than n edges leads from u to v
-pub record NoneShorter (image t : List ℕ) (b : Bool) (n u v : ℕ) (r : Bool) : Type 0 where
-  pub yes-is : r ≡ true → NoneBelow (graphOf image) (baseIf b) (patternOf t) n u v
-  pub no-is : r ≡ false → (m : ℕ) × (m < n) × Joins (graphOf image) (baseIf b) (patternOf t) m u v
+pub record NoneShorter (G : Graph) (t : List ℕ) (b : Bool) (n u v : ℕ) (r : Bool) : Type 0 where
+  pub yes-is : r ≡ true → NoneBelow G (baseIf b) (patternOf t) n u v
+  pub no-is : r ≡ false → (m : ℕ) × (m < n) × Joins G (baseIf b) (patternOf t) m u v
 
 -- r is the judge's answer
 pub record Judges (image t : List ℕ) (n : ℕ) (rec : List ℕ) (r : Bool) : Type 0 where
   pub is : r ≡ judge image t n rec
 
--- r is the judge's answer, if the words are the record of an answer of the pattern
-pub record JudgedAnswer (image t : List ℕ) (n : ℕ) (rec : List ℕ) (r : Bool) : Type 0 where
-  pub is : judgeWords (graphOf image) eight (patternOf t) rec ≡ true → r ≡ judge image t n rec
+-- r is the judge's answer for every accepted image of the graph
+pub record JudgesIn (G : Graph) (t : List ℕ) (n : ℕ) (rec : List ℕ) (r : Bool) : Type 0 where
+  pub is : (image : List ℕ) → G ≡ graphOf image → fixedFault image t n ≡ none → r ≡ judge image t n rec
+
+-- the same, if the words are the record of an answer of the pattern
+pub record JudgedAnswer (G : Graph) (t : List ℕ) (n : ℕ) (rec : List ℕ) (r : Bool) : Type 0 where
+  pub is : (image : List ℕ) → G ≡ graphOf image → fixedFault image t n ≡ none → judgeWords G eight (patternOf t) rec ≡ true → r ≡ judge image t n rec

@@ -1,27 +1,29 @@
 // Whether the words, from the path on, are values with which the path is a match of the pattern.
+use compiled::rows;
 use probe::known_slots;
 use probe::path_ends;
 ghost use lib.ListN.{length};
 ghost use Rattle.judge.specs.Judging.{Matches};
 ghost use Rattle.promises.specs.Prepared.{Prepared};
+ghost use Rattle.compiled.specs.Parts.{tableIn};
+ghost use Rattle.compiled.specs.Words.{graphIn};
 
 // The values end where the words end, and the end of the path is an end of a match with them.
 pub fn matches(
-    image: &[u8],
-    pat: &[u16],
+    graph: &[u64],
     fit: &[u64],
     plan: &[u64],
     rec: &[u16],
     last: usize,
 ) -> bool
-    requires { ⌜ Prepared (now image) (now pat) (now fit) (now plan) (now rec) (length (now rec)) last ⌝ }
-    ensures { λ r. ⌜ Matches (now (image .entry)) (now (pat .entry)) (now (rec .entry)) last r ⌝ }
+    requires { ⌜ Prepared (now graph) (tableIn (now plan)) (now fit) (now plan) (now rec) (length (now rec)) last ⌝ }
+    ensures { λ r. ⌜ Matches (graphIn (now (graph .entry))) (tableIn (now (plan .entry))) (now (rec .entry)) last r ⌝ }
 {
     let known = rec.len();
-    let row = pat.len() / 5 - 1;
+    let row = rows(plan) - 1;
     let slots = known_slots(plan, rec, known, last, row);
     if slots.end != known {
         return false;
     }
-    path_ends(image, pat, fit, plan, rec, known, last)
+    path_ends(graph, fit, plan, rec, known, last)
 }

@@ -1,21 +1,17 @@
 // The restrictor: the base, and for `shortest` that no answer with the same ends has fewer edges.
 use crate::repeats::repeats_nothing;
 use crate::shorter::none_shorter;
-use image::Sections;
 ghost use mathlib.Core.Path.{_≡_};
-ghost use mathlib.Core.Option.{none};
 ghost use Prim.Native.Nat.{_≤_};
 ghost use lib.ListN.{length};
 ghost use Rattle.judge.specs.Judging.{JudgedAnswer, NodesBelow, Told};
-ghost use Rattle.meaning.specs.FullListing.{fixedFault};
-ghost use Rattle.meaning.specs.Image.{nodeCount};
+ghost use Rattle.compiled.specs.Words.{graphIn, nodesIn};
 ghost use Rattle.promises.specs.Prepared.{PlanIs, Source};
+ghost use Rattle.compiled.specs.Parts.{tableIn};
 
 // Whether an answer of the pattern is one of the restricted pattern. The restrictors 2 and 4 are simple, 3 and 4 shortest.
 pub fn keeps_restrictor(
-    image: &[u8],
-    s: Sections,
-    pat: &[u16],
+    graph: &[u64],
     plan: &[u64],
     fit: &mut [u64],
     restrictor: u64,
@@ -23,8 +19,8 @@ pub fn keeps_restrictor(
     last: usize,
     work: &mut [u16],
 ) -> bool
-    requires { ⌜ (fixedFault (now image) (now pat) restrictor ≡ none) × Told (now rec) last × NodesBelow (now rec) last (nodeCount (now image)) × Source (now image) (now pat) s × PlanIs (now image) (now pat) (now plan) × (401 ≤ length (now fit)) × (length (now work) ≡ 20000) ⌝ }
-    ensures { λ r. ⌜ JudgedAnswer (now (image .entry)) (now (pat .entry)) restrictor (now (rec .entry)) r ⌝ }
+    requires { ⌜ Told (now rec) last × NodesBelow (now rec) last (nodesIn (now graph)) × Source (now graph) (tableIn (now plan)) (now plan) × PlanIs (now graph) (tableIn (now plan)) (now plan) × (401 ≤ length (now fit)) × (length (now work) ≡ 20000) ⌝ }
+    ensures { λ r. ⌜ JudgedAnswer (graphIn (now (graph .entry))) (tableIn (now (plan .entry))) restrictor (now (rec .entry)) r ⌝ }
 {
     let simple = restrictor % 2 == 0;
     if repeats_nothing(rec, last, simple) {
@@ -33,9 +29,7 @@ pub fn keeps_restrictor(
         }
         let end = 2 * last + 1;
         return none_shorter(
-            image,
-            s,
-            pat,
+            graph,
             plan,
             fit,
             work,

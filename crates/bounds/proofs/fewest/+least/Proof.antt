@@ -12,7 +12,7 @@ use Rattle.bounds.proofs.fewest.+least.Lts-least as least-lts
 use Rattle.bounds.proofs.numbers.product.Reads as product-reads
 use Rattle.bounds.proofs.numbers.smaller.Reads as smaller-reads
 use Rattle.bounds.proofs.numbers.sum.Reads as sum-reads
-use Rattle.rows.proofs.row_at.Reads as row-at-reads
+use Rattle.compiled.proofs.row_at.Reads as row-at-reads
 use Rattle.bounds.proofs.fewest.+least.{statement}
 use Rattle.bounds.proofs.fewest.+least.Tie.{close}
 
@@ -32,28 +32,28 @@ least-row-at-requires : (t : ℕ) → least-lts.Need-row-at-requires (least-cs t
 least-row-at-requires t c κs = search needs
 
 least-least-requires : (t : ℕ) → least-lts.Need-least-requires (least-cs t) (least-at t) least.Post
-least-least-requires t c κs = p-falls (c .before .row-at .ensures) (search needs) (search needs) (search needs) (search needs)
+least-least-requires t c κs = let f = p-falls (c .before .row-at .ensures) (search needs) {n = t} (search needs) (search needs) (search needs) in (f .0, (search needs, f .1))
 
 least-least-requires-2 : (t : ℕ) → least-lts.Need-least-requires-2 (least-cs t) (least-at t) least.Post
-least-least-requires-2 t c κs = q-falls (c .before .before .row-at .ensures) (search needs) (search needs) (search needs) (search needs)
+least-least-requires-2 t c κs = let f = q-falls (c .before .before .row-at .ensures) (search needs) {n = t} (search needs) (search needs) (search needs) in (f .0, (search needs, f .1))
 
 least-smaller-requires : (t : ℕ) → least-lts.Need-smaller-requires (least-cs t) (least-at t) least.Post
 least-smaller-requires t c κs = search needs
 
 least-least-requires-3 : (t : ℕ) → least-lts.Need-least-requires-3 (least-cs t) (least-at t) least.Post
-least-least-requires-3 t c κs = p-falls (c .before .row-at .ensures) (search needs) (search needs) (search needs) (search needs)
+least-least-requires-3 t c κs = let f = p-falls (c .before .row-at .ensures) (search needs) {n = t} (search needs) (search needs) (search needs) in (f .0, (search needs, f .1))
 
 least-least-requires-4 : (t : ℕ) → least-lts.Need-least-requires-4 (least-cs t) (least-at t) least.Post
-least-least-requires-4 t c κs = q-falls (c .before .before .row-at .ensures) (search needs) (search needs) (search needs) (search needs)
+least-least-requires-4 t c κs = let f = q-falls (c .before .before .row-at .ensures) (search needs) {n = t} (search needs) (search needs) (search needs) in (f .0, (search needs, f .1))
 
 least-sum-requires : (t : ℕ) → least-lts.Need-sum-requires (least-cs t) (least-at t) least.Post
 least-sum-requires t c κs = search needs
 
 least-least-requires-5 : (t : ℕ) → least-lts.Need-least-requires-5 (least-cs t) (least-at t) least.Post
-least-least-requires-5 t c κs = p-falls (c .before .row-at .ensures) (search needs) (search needs) (search needs) (search needs)
+least-least-requires-5 t c κs = let f = p-falls (c .before .row-at .ensures) (search needs) {n = t} (search needs) (search needs) (search needs) in (f .0, (search needs, f .1))
 
 least-least-requires-6 : (t : ℕ) → least-lts.Need-least-requires-6 (least-cs t) (least-at t) least.Post
-least-least-requires-6 t c κs = p-falls (c .before .row-at .ensures) (search needs) (search needs) (search needs) (search needs)
+least-least-requires-6 t c κs = let f = p-falls (c .before .row-at .ensures) (search needs) {n = t} (search needs) (search needs) (search needs) in (f .0, (search needs, f .1))
 
 least-product-requires : (t : ℕ) → least-lts.Need-product-requires (least-cs t) (least-at t) least.Post
 least-product-requires t c κs = search needs

@@ -12,7 +12,7 @@ use Rattle.bounds.proofs.greatest.+most.Lts-most as most-lts
 use Rattle.bounds.proofs.greatest.repeated.Reads as repeated-reads
 use Rattle.bounds.proofs.numbers.greater.Reads as greater-reads
 use Rattle.bounds.proofs.numbers.sum.Reads as sum-reads
-use Rattle.rows.proofs.row_at.Reads as row-at-reads
+use Rattle.compiled.proofs.row_at.Reads as row-at-reads
 use Rattle.bounds.proofs.greatest.+most.{statement}
 use Rattle.bounds.proofs.greatest.+most.Tie.{close}
 
@@ -32,28 +32,28 @@ most-row-at-requires : (t : ℕ) → most-lts.Need-row-at-requires (most-cs t) (
 most-row-at-requires t c κs = search needs
 
 most-most-requires : (t : ℕ) → most-lts.Need-most-requires (most-cs t) (most-at t) most.Post
-most-most-requires t c κs = p-falls (c .before .row-at .ensures) (search needs) (search needs) (search needs) (search needs)
+most-most-requires t c κs = let f = p-falls (c .before .row-at .ensures) (search needs) {n = t} (search needs) (search needs) (search needs) in (f .0, (search needs, f .1))
 
 most-most-requires-2 : (t : ℕ) → most-lts.Need-most-requires-2 (most-cs t) (most-at t) most.Post
-most-most-requires-2 t c κs = q-falls (c .before .before .row-at .ensures) (search needs) (search needs) (search needs) (search needs)
+most-most-requires-2 t c κs = let f = q-falls (c .before .before .row-at .ensures) (search needs) {n = t} (search needs) (search needs) (search needs) in (f .0, (search needs, f .1))
 
 most-greater-requires : (t : ℕ) → most-lts.Need-greater-requires (most-cs t) (most-at t) most.Post
 most-greater-requires t c κs = search needs
 
 most-most-requires-3 : (t : ℕ) → most-lts.Need-most-requires-3 (most-cs t) (most-at t) most.Post
-most-most-requires-3 t c κs = p-falls (c .before .row-at .ensures) (search needs) (search needs) (search needs) (search needs)
+most-most-requires-3 t c κs = let f = p-falls (c .before .row-at .ensures) (search needs) {n = t} (search needs) (search needs) (search needs) in (f .0, (search needs, f .1))
 
 most-most-requires-4 : (t : ℕ) → most-lts.Need-most-requires-4 (most-cs t) (most-at t) most.Post
-most-most-requires-4 t c κs = q-falls (c .before .before .row-at .ensures) (search needs) (search needs) (search needs) (search needs)
+most-most-requires-4 t c κs = let f = q-falls (c .before .before .row-at .ensures) (search needs) {n = t} (search needs) (search needs) (search needs) in (f .0, (search needs, f .1))
 
 most-sum-requires : (t : ℕ) → most-lts.Need-sum-requires (most-cs t) (most-at t) most.Post
 most-sum-requires t c κs = search needs
 
 most-most-requires-5 : (t : ℕ) → most-lts.Need-most-requires-5 (most-cs t) (most-at t) most.Post
-most-most-requires-5 t c κs = p-falls (c .before .row-at .ensures) (search needs) (search needs) (search needs) (search needs)
+most-most-requires-5 t c κs = let f = p-falls (c .before .row-at .ensures) (search needs) {n = t} (search needs) (search needs) (search needs) in (f .0, (search needs, f .1))
 
 most-most-requires-6 : (t : ℕ) → most-lts.Need-most-requires-6 (most-cs t) (most-at t) most.Post
-most-most-requires-6 t c κs = p-falls (c .before .row-at .ensures) (search needs) (search needs) (search needs) (search needs)
+most-most-requires-6 t c κs = let f = p-falls (c .before .row-at .ensures) (search needs) {n = t} (search needs) (search needs) (search needs) in (f .0, (search needs, f .1))
 
 most-repeated-requires : (t : ℕ) → most-lts.Need-repeated-requires (most-cs t) (most-at t) most.Post
 most-repeated-requires t c κs = search needs

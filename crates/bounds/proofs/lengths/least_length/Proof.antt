@@ -1,8 +1,12 @@
 -- `bounds::lengths::least_length` meets its contract. Assumes nothing.
 use native.Mathlib.Omega.{arith}
+use borrow.Author.Needs.{needs}
 use Rattle.bounds.proofs.DeadLengths.{least-is, root-asked, root-some}
 use Rattle.bounds.proofs.lengths.least_length.Statement.{statement}
 use Rattle.bounds.proofs.lengths.least_length.Tie as tie
+
+rows-requires : tie.Need-rows-requires
+rows-requires c κs = search needs
 
 sub-least : tie.Need-sub-least
 sub-least c = search (root-some, arith)
@@ -14,4 +18,4 @@ returns : tie.Need-returns
 returns c = search (least-is, arith)
 
 pub least-length-spec : {M : Type 1} → statement M
-least-length-spec = tie.close (tie.spec sub-least least-requires returns)
+least-length-spec = tie.close (tie.spec rows-requires sub-least least-requires returns)

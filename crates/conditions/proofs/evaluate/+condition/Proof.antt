@@ -15,12 +15,12 @@ use Rattle.conditions.proofs.property.equal_properties.Reads as equal-p
 use Rattle.conditions.proofs.truth.conjoined.Reads as conjoined-reads
 use Rattle.conditions.proofs.truth.disjoined.Reads as disjoined-reads
 use Rattle.conditions.proofs.truth.negated.Reads as negated-reads
-use Rattle.rows.proofs.row_at.Reads as row-at-reads
+use Rattle.compiled.proofs.row_at.Reads as row-at-reads
 use Rattle.conditions.proofs.evaluate.+condition.{statement}
 use Rattle.conditions.proofs.evaluate.+condition.Tie.{close}
 
 abbrev μ-condition : Measures 2 condition-kinds.ps ℕ
-μ-condition κs a = a .1 .1 .1 .0
+μ-condition κs a = a .1 .1 .0
 
 abbrev condition-at : ℕ → In 2 condition-kinds.ps
 condition-at t = and 2 condition-kinds.ps (is 2 condition-kinds.ps μ-condition t) condition.Pre
@@ -40,9 +40,6 @@ condition-of-requires t c κs = search (constant-slot, arith)
 
 condition-cast-equal-constant : (t : ℕ) → condition-lts.Need-cast-equal-constant (condition-cs t) (condition-at t) condition.Post
 condition-cast-equal-constant t c = search needs
-
-condition-cast-equal-constant-2 : (t : ℕ) → condition-lts.Need-cast-equal-constant-2 (condition-cs t) (condition-at t) condition.Post
-condition-cast-equal-constant-2 t c = search needs
 
 condition-equal-constant-requires : (t : ℕ) → condition-lts.Need-equal-constant-requires (condition-cs t) (condition-at t) condition.Post
 condition-equal-constant-requires t c κs = search needs
@@ -111,7 +108,6 @@ pub +condition-spec : {M : Type 1} → statement M
     (condition-row-at-requires t)
     (condition-of-requires t)
     (condition-cast-equal-constant t)
-    (condition-cast-equal-constant-2 t)
     (condition-equal-constant-requires t)
     (condition-of-requires-2 t)
     (condition-cast-equal-properties t)

@@ -5,6 +5,9 @@ use Rattle.judge.proofs.MatchWays.{match-ends, match-no, row-few, some-
 use Rattle.judge.proofs.matched.matches.Statement.{statement}
 use Rattle.judge.proofs.matched.matches.Tie as tie
 
+rows-requires : tie.Need-rows-requires
+rows-requires c κs = search needs
+
 sub-row : tie.Need-sub-row
 sub-row c = search (some-row, arith)
 
@@ -22,4 +25,4 @@ returns-2 c = search (match-ends, arith)
 
 pub matches-spec : {M : Type 1} → statement M
 matches-spec =
-    tie.close (tie.spec sub-row known-slots-requires returns path-ends-requires returns-2)
+    tie.close (tie.spec rows-requires sub-row known-slots-requires returns path-ends-requires returns-2)

@@ -28,7 +28,7 @@ shared-slice-read-none-shorter-2 c = search needs
 
 none-shorter-requires : tie.Need-none-shorter-requires
 none-shorter-requires c κs =
-    let p = c .before .before .before .before .before .before .before .before .before .before .before .before .before .pre in (p .3, p .4, p .5, p .6, p .1 .few, search (first-node, arith), search (last-node, arith))
+    let p = c .before .before .before .before .before .before .before .before .before .before .before .before .pre in (p .2, p .3, p .4, p .5, p .0 .few, search (first-node, arith), search (last-node, arith))
 
 same-length : tie.Need-same-length
 same-length c = search needs

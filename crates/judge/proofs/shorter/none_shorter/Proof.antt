@@ -3,16 +3,17 @@ use mathlib.Core.Path.{_≡_}
 use Prim.Native.Nat.{_-_}
 use lib.ListN.{length}
 use native.Mathlib.Omega.{arith}
+use Rattle.compiled.specs.Parts.{tableIn}
 use borrow.Author.Needs.{needs}
 use Rattle.judge.proofs.ShorterWays.{NoneYet, none-all, none-first, none-hit, none-more}
 use Rattle.judge.proofs.shorter.none_shorter.Statement.{statement}
 use Rattle.judge.proofs.shorter.none_shorter.Tie as tie
 
 abbrev Inv-loop : tie.InvT-loop
-Inv-loop image s pat plan fit₀ work₀ simple n u v m₀ fit work m = NoneYet image pat simple n u v m × (length fit ≡ length fit₀) × (length work ≡ length work₀)
+Inv-loop graph plan fit₀ work₀ simple n u v m₀ fit work m = NoneYet graph (tableIn plan) simple n u v m × (length fit ≡ length fit₀) × (length work ≡ length work₀)
 
 abbrev μ-loop : tie.MeasureT-loop
-μ-loop image s pat plan fit₀ work₀ simple n u v m₀ fit work m = n - m
+μ-loop graph plan fit₀ work₀ simple n u v m₀ fit work m = n - m
 
 least-length-requires : tie.Need-least-length-requires Inv-loop μ-loop
 least-length-requires c κs = search needs

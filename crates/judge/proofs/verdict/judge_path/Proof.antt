@@ -1,7 +1,7 @@
 -- `judge::judge_path` meets its contract. Assumes nothing.
 use native.Mathlib.Omega.{arith}
 use borrow.Author.Needs.{needs}
-use Rattle.judge.proofs.VerdictWays.{nodes-in, off-graph, source-is}
+use Rattle.judge.proofs.VerdictWays.{nodes-in, off-graph, image-checked}
 use Rattle.judge.proofs.verdict.judge_path.Statement.{statement}
 use Rattle.judge.proofs.verdict.judge_path.Tie as tie
 
@@ -12,7 +12,7 @@ nodes-within-requires : tie.Need-nodes-within-requires
 nodes-within-requires c κs = search needs
 
 judge-values-requires : tie.Need-judge-values-requires
-judge-values-requires c κs = search (nodes-in, source-is, arith)
+judge-values-requires c κs = search (nodes-in, image-checked, arith)
 
 same-length : tie.Need-same-length
 same-length c = search needs

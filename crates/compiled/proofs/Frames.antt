@@ -1,0 +1,49 @@
+-- What is put behind the first 328 words of a plan changes neither table nor restrictor.
+use mathlib.Core.Path.{_≡_, refl, ap, sym, _∙_}
+use mathlib.Core.List.{List}
+use Prim.Native.Nat.{ℕ, _+_, _<_, _≤_}
+use native.Mathlib.Omega.{arith}
+use lib.ListN.{drop, getD, length, length-drop, length-set, set, take}
+use lib.Seq.{ext-getD, getD-drop, getD-set-other, getD-take, length-take-le}
+use Rattle.meaning.specs.Answer.{restrictorOf}
+use Rattle.meaning.specs.Table.{patternFault}
+use Rattle.compiled.specs.Parts.{Tabled, restrictorIn, tableIn}
+use Rattle.compiled.specs.Sound.{Sound}
+
+-- two plans with the same first words
+module _ (p q : List ℕ) (t : Tabled p) (room : 328 ≤ length p) (long : length q ≡ length p) (same : (j : ℕ) → j < 328 → getD q j 0 ≡ getD p j 0) where
+  whole : (r : List ℕ) → length r ≡ length p → length (take (getD p 0 0) (drop 8 r)) ≡ getD p 0 0
+  whole r e = length-take-le (getD p 0 0) (drop 8 r) (simp length-drop (omega (arith, t .short)))
+
+  pub table-kept : tableIn q ≡ tableIn p
+  unfolding tableIn
+  table-kept = rw (same 0 (omega arith)) (ext-getD 0 (take (getD p 0 0) (drop 8 q)) (take (getD p 0 0) (drop 8 p)) (whole q long ∙ sym (whole p refl))
+      (λ i h. let l : i < getD p 0 0 = omega (arith, whole q long) in
+      getD-take (getD p 0 0) (drop 8 q) i 0 l ∙ getD-drop 8 q i 0 ∙ same (8 + i) (omega (arith, t .short)) ∙ sym (getD-drop 8 p i 0) ∙ sym (getD-take (getD p 0 0) (drop 8 p) i 0 l)))
+
+  pub restrictor-kept : restrictorIn q ≡ restrictorIn p
+  unfolding restrictorIn
+  restrictor-kept = ap restrictorOf (same 1 (omega arith))
+
+  pub tabled-kept : Tabled q
+  tabled-kept =
+      let z : getD q 0 0 ≡ getD p 0 0 = same 0 (omega arith) in
+      record {
+        size = ap length table-kept ∙ t .size ∙ sym z;
+        short = omega (arith, t .short);
+        small = λ j h. rw (same (8 + j) (omega (arith, t .short))) (t .small j (omega arith));
+      }
+
+  pub sound-kept : (g : List ℕ) → Sound g p → Sound g q
+  sound-kept g s = record { graph = s .graph; table = tabled-kept; accepted = ap patternFault table-kept ∙ s .accepted }
+
+-- one word behind them
+module _ (p : List ℕ) (t : Tabled p) (room : 328 ≤ length p) (i x : ℕ) (h : 328 ≤ i) where
+  behind : (j : ℕ) → j < 328 → getD (set p i x) j 0 ≡ getD p j 0
+  behind j l = getD-set-other p i j x 0 (λ z. omega arith)
+
+  pub table-set : tableIn (set p i x) ≡ tableIn p
+  table-set = table-kept p (set p i x) t room (length-set p i x) behind
+
+  pub sound-set : (g : List ℕ) → Sound g p → Sound g (set p i x)
+  sound-set = sound-kept p (set p i x) t room (length-set p i x) behind

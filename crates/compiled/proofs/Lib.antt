@@ -1,0 +1,9 @@
+pub mod Reading
+pub mod Searching
+pub mod Finding
+pub mod Parts
+pub mod Putting
+pub mod Copying
+pub mod Compiling
+pub mod Graphs
+pub mod Frames

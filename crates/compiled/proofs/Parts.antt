@@ -1,0 +1,61 @@
+-- The ways out of the readers of a part.
+use mathlib.Core.Path.{_≡_, refl, sym, _∙_}
+use mathlib.Core.List.{List}
+use mathlib.Core.Bool.{Bool, false, true}
+use Prim.Native.Nat.{ℕ, _+_, _<_, _/_}
+use native.Mathlib.Omega.{arith}
+use lib.ListN.{drop, getD, length}
+use lib.Seq.{getD-drop, getD-take}
+use borrow.Author.Tests.{ne-eqb}
+use lib.Dec.{eqb}
+use Rattle.meaning.specs.Answer.{Restrictor, restrictorOf, simple, trail}
+use Rattle.meaning.specs.Basics.{if_then_else_}
+use Rattle.compiled.specs.declared.part.Base.the-variants.{Trail, Simple}
+use Rattle.compiled.specs.Parts.{Tabled, baseOf, restrictorIn, tableIn}
+
+module _ (p : List ℕ) (t : Tabled p) (j : ℕ) (h : j < length (tableIn p)) where
+  pub cell-at : getD (tableIn p) j 0 ≡ getD p (8 + j) 0
+  unfolding tableIn
+  cell-at = getD-take (getD p 0 0) (drop 8 p) j 0 (omega (arith, t .size)) ∙ getD-drop 8 p j 0
+
+  pub cell-is : (w : ℕ) → w ≡ getD p (8 + j) 0 → w ≡ getD (tableIn p) j 0
+  cell-is w e = e ∙ sym cell-at
+
+  pub cell-small : (w : ℕ) → w ≡ getD p (8 + j) 0 → w < 65536
+  cell-small w e = rw e (t .small j (omega (arith, t .size)))
+
+pub rows-are : (p : List ℕ) → Tabled p → (w : ℕ) → w ≡ getD p 0 0 → w / 5 ≡ length (tableIn p) / 5
+rows-are p t w e = rw (t .size, e)
+
+module _ (p : List ℕ) (n : ℕ) (h : n ≡ getD p 1 0) where
+  pub base-1 : n ≡ 1 → baseOf Trail ≡ restrictorIn p .base
+  unfolding restrictorIn restrictorOf
+  base-1 e = rw (← h, e)
+
+  pub base-3 : n ≡ 3 → baseOf Trail ≡ restrictorIn p .base
+  unfolding restrictorIn restrictorOf
+  base-3 e = rw (← h, e)
+
+  pub base-other : (n ≡ 1 → ⊥) → (n ≡ 3 → ⊥) → baseOf Simple ≡ restrictorIn p .base
+  unfolding restrictorIn restrictorOf
+  base-other a b = rw (← h, ne-eqb n 1 a, ne-eqb n 3 b) (go (eqb n 2))
+    where
+      go : (c : Bool) → simple ≡ (if_then_else_ {A = Restrictor} c (record { base = simple; shortest = false }) (record { base = simple; shortest = true })) .base
+      go true = refl
+      go false = refl
+
+  pub every-1 : n ≡ 1 → false ≡ restrictorIn p .shortest
+  unfolding restrictorIn restrictorOf
+  every-1 e = rw (← h, e)
+
+  pub every-2 : n ≡ 2 → false ≡ restrictorIn p .shortest
+  unfolding restrictorIn restrictorOf
+  every-2 e = rw (← h, e)
+
+  pub shortest-other : (n ≡ 1 → ⊥) → (n ≡ 2 → ⊥) → true ≡ restrictorIn p .shortest
+  unfolding restrictorIn restrictorOf
+  shortest-other a b = rw (← h, ne-eqb n 1 a, ne-eqb n 2 b) (go (eqb n 3))
+    where
+      go : (c : Bool) → true ≡ (if_then_else_ {A = Restrictor} c (record { base = trail; shortest = true }) (record { base = simple; shortest = true })) .shortest
+      go true = refl
+      go false = refl

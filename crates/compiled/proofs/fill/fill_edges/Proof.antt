@@ -1,0 +1,63 @@
+use Prim.Native.Nat.{_-_, _≤_}
+use Rattle.compiled.specs.Copies.{EdgesPut}
+use Rattle.compiled.proofs.Copying.{few-edges, edges-more, edges-all, edges-none}
+use native.Mathlib.Omega.{arith}
+use borrow.Author.Needs.{needs}
+use Rattle.compiled.proofs.fill.fill_edges.Statement.{statement}
+use Rattle.compiled.proofs.fill.fill_edges.Tie as tie
+use Rattle.compiled.proofs.fill.fill_edges.Reads as reads
+use Rattle.compiled.proofs.fill.fill_edges.Lts as lts
+use Rattle.compiled.proofs.copy.edge_word.Reads as edge-word-reads
+
+abbrev Inv-loop : tie.InvT-loop
+Inv-loop image s graph₀ i₀ graph i = (i ≤ s .edges .count) × (s .edges .count ≤ 200) × EdgesPut image i graph₀ graph
+
+abbrev μ-loop : tie.MeasureT-loop
+μ-loop image s graph₀ i₀ graph i = s .edges .count - i
+
+loop-holds : tie.Need-loop-holds Inv-loop μ-loop
+loop-holds c = search (few-edges, edges-none, arith)
+
+edge-word-requires : tie.Need-edge-word-requires Inv-loop μ-loop
+edge-word-requires c κs = search needs
+
+add-graph : tie.Need-add-graph Inv-loop μ-loop
+add-graph c = search needs
+
+mul-graph : tie.Need-mul-graph Inv-loop μ-loop
+mul-graph c = search needs
+
+slice-write-graph : tie.Need-slice-write-graph Inv-loop μ-loop
+slice-write-graph c = search needs
+
+add-i : tie.Need-add-i Inv-loop μ-loop
+add-i c = search needs
+
+loop-less : tie.Need-loop-less Inv-loop μ-loop
+loop-less c = search needs
+
+loop-again : tie.Need-loop-again Inv-loop μ-loop
+loop-again c = search (edges-more, arith)
+
+same-length : tie.Need-same-length Inv-loop μ-loop
+same-length c = search needs
+
+returns : tie.Need-returns Inv-loop μ-loop
+returns c = search (edges-all, arith)
+
+pub fill-edges-spec : {M : Type 1} → statement M
+fill-edges-spec =
+    tie.close
+    (tie.spec
+    Inv-loop
+    μ-loop
+    loop-holds
+    edge-word-requires
+    add-graph
+    mul-graph
+    slice-write-graph
+    add-i
+    loop-less
+    loop-again
+    same-length
+    returns)

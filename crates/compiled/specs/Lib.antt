@@ -1,0 +1,5 @@
+pub mod Words
+pub mod Parts
+pub mod Sound
+pub mod Values
+pub mod Copies

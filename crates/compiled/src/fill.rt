@@ -1,0 +1,106 @@
+// The words filled from what a call is lent.
+use crate::copy::edge_word;
+use crate::copy::label_word;
+use crate::copy::property_word;
+use crate::look::EDGES;
+use crate::look::LABELS;
+use crate::look::PROPERTIES;
+use crate::part::TABLE;
+use crate::word::long;
+use image::Sections;
+ghost use mathlib.Core.Path.{_≡_};
+ghost use mathlib.Core.Option.{none};
+ghost use Prim.Native.Nat.{_≤_};
+ghost use lib.ListN.{length};
+ghost use Rattle.meaning.specs.Table.{patternFault};
+ghost use Rattle.image.specs.Sections.{Checked};
+ghost use Rattle.compiled.specs.Copies.{Compiled, EdgesPut, GraphFilled, LabelsPut, PartFilled, PropertiesPut, TablePut};
+
+fn fill_edges(image: &[u8], s: Sections, graph: &mut [u64])
+    requires { ⌜ Checked (now image) s × (length (now graph) ≡ 3008) ⌝ }
+    ensures { λ _. ⌜ EdgesPut (now (image .entry)) (s .edges .count) (now (graph .entry)) (now (graph .exit)) ⌝ }
+{
+    let mut i: usize = 0;
+    while i < s.edges.count {
+        let w = edge_word(image, s, i);
+        graph[EDGES + i] = w;
+        i += 1;
+    }
+}
+
+fn fill_labels(image: &[u8], s: Sections, graph: &mut [u64])
+    requires { ⌜ Checked (now image) s × (length (now graph) ≡ 3008) ⌝ }
+    ensures { λ _. ⌜ LabelsPut (now (image .entry)) (s .labels .count) (now (graph .entry)) (now (graph .exit)) ⌝ }
+{
+    let mut i: usize = 0;
+    while i < s.labels.count {
+        let w = label_word(image, s, i);
+        graph[LABELS + i] = w;
+        i += 1;
+    }
+}
+
+fn fill_properties(image: &[u8], s: Sections, graph: &mut [u64])
+    requires { ⌜ Checked (now image) s × (length (now graph) ≡ 3008) ⌝ }
+    ensures { λ _. ⌜ PropertiesPut (now (image .entry)) (s .properties .count) (now (graph .entry)) (now (graph .exit)) ⌝ }
+{
+    let mut i: usize = 0;
+    while i < s.properties.count {
+        let w = property_word(image, s, i);
+        graph[PROPERTIES + i] = w;
+        i += 1;
+    }
+}
+
+// The graph of an accepted image.
+fn fill_graph(image: &[u8], s: Sections, graph: &mut [u64])
+    requires { ⌜ Checked (now image) s × (length (now graph) ≡ 3008) ⌝ }
+    ensures { λ _. ⌜ GraphFilled (now (image .entry)) (now (graph .exit)) ⌝ }
+{
+    graph[0] = s.nodes.count as u64;
+    graph[1] = s.edges.count as u64;
+    graph[2] = s.labels.count as u64;
+    graph[3] = s.properties.count as u64;
+    fill_edges(image, s, graph);
+    fill_labels(image, s, graph);
+    fill_properties(image, s, graph);
+}
+
+// The words of a table, each in a word of the plan.
+fn fill_table(pat: &[u16], plan: &mut [u64])
+    requires { ⌜ (length (now pat) ≤ 320) × (328 ≤ length (now plan)) ⌝ }
+    ensures { λ _. ⌜ TablePut (now (pat .entry)) (length (now (pat .entry))) (now (plan .entry)) (now (plan .exit)) ⌝ }
+{
+    let mut i: usize = 0;
+    while i < pat.len() {
+        let w = long(pat[i]);
+        plan[TABLE + i] = w;
+        i += 1;
+    }
+}
+
+// The table and the restrictor of a part.
+fn fill_part(pat: &[u16], restrictor: u64, plan: &mut [u64])
+    requires { ⌜ (length (now pat) ≤ 320) × (328 ≤ length (now plan)) ⌝ }
+    ensures { λ _. ⌜ PartFilled (now (pat .entry)) restrictor (now (plan .exit)) ⌝ }
+{
+    plan[0] = pat.len() as u64;
+    plan[1] = restrictor;
+    fill_table(pat, plan);
+}
+
+// All that a call reads.
+pub fn compile(
+    image: &[u8],
+    s: Sections,
+    pat: &[u16],
+    restrictor: u64,
+    graph: &mut [u64],
+    plan: &mut [u64],
+)
+    requires { ⌜ Checked (now image) s × (patternFault (now pat) ≡ none) × (length (now graph) ≡ 3008) × (328 ≤ length (now plan)) ⌝ }
+    ensures { λ _. ⌜ Compiled (now (image .entry)) (now (pat .entry)) restrictor (now (graph .exit)) (now (plan .exit)) ⌝ }
+{
+    fill_graph(image, s, graph);
+    fill_part(pat, restrictor, plan);
+}
