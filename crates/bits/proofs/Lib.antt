@@ -7,3 +7,4 @@ pub mod Shift
 pub mod Empty
 pub mod Masks
 pub mod Laws
+pub mod SetWords

@@ -1,5 +1,9 @@
 // Sets of numbers below 256, by value, as masks over four words; and masks of one word. Each function promises what the set of the
 // result has, as a function of the sets of its arguments.
+mod stored;
+
+pub use stored::put_set;
+pub use stored::set_at;
 ghost use mathlib.Core.Path.{_≡_};
 ghost use mathlib.Core.Bool.{cond};
 ghost use Prim.Native.Nat.{_-_};

@@ -21,9 +21,8 @@ use Rattle.meaning.proofs.ImageRead.{image-read}
 use Rattle.meaning.proofs.Logic.{and-l, and-r, either, or-cases, or-false-r}
 use Rattle.image.specs.Sections.{Checked}
 use Rattle.image.specs.declared.sections.Sections.{Sections}
-use Rattle.image.specs.declared.keyed.Keyed.the-variants.{Labels, Properties}
 use Rattle.image.proofs.Edges.{ends-are-nodes}
-use Rattle.image.proofs.Rising.{keys-rise}
+use Rattle.image.proofs.Rising.{labels-rise, properties-rise}
 use Rattle.compiled.specs.Words.{edgeIn, edgeOf, edgesIn, graphIn, labelsIn, names, nodesIn, numberIn, pairOf, propertiesIn, someNames, valueIn, valueOf}
 use Rattle.compiled.specs.Parts.{Tabled, restrictorIn, tableIn}
 use Rattle.compiled.specs.Sound.{Lawful, Rises, Sound}
@@ -148,14 +147,14 @@ module _ (b : List ℕ) (sound : imageFault b ≡ none) (g : List ℕ) (k : Copi
           let m : j < labelCount b = omega (arith, k .labels) in
           let v = k .label i (omega arith) in
           let w = k .label j m in
-          pairs-rise _ _ _ _ _ _ (v .owner) (v .name) (w .owner) (w .name) (keys-rise b sound Labels i j h m);
+          pairs-rise _ _ _ _ _ _ (v .owner) (v .name) (w .owner) (w .name) (labels-rise b sound i j h m);
     };
     properties-rise = record {
       is = λ i j h l.
           let m : j < propertyCount b = omega (arith, k .properties) in
           let v = k .property i (omega arith) in
           let w = k .property j m in
-          pairs-rise _ _ _ _ _ _ (v .owner) (v .name) (w .owner) (w .name) (keys-rise b sound Properties i j h m);
+          pairs-rise _ _ _ _ _ _ (v .owner) (v .name) (w .owner) (w .name) (properties-rise b sound i j h m);
     };
   }
 

@@ -10,11 +10,11 @@ use Rattle.meaning.specs.Graph as graph
 use Rattle.meaning.specs.Graph.{Graph, labelled}
 use Rattle.meaning.specs.Table.{unless}
 use borrow.Author.Tests.{ne-eqb}
-use Rattle.image.specs.Elements.{elementOf}
-use Rattle.image.specs.declared.ids.EdgeId.{EdgeId}
-use Rattle.image.specs.declared.ids.NodeId.{NodeId}
-use Rattle.image.specs.declared.ids.Element.{Element}
-use Rattle.image.specs.declared.ids.Element.the-variants.{Node, Edge}
+use Rattle.compiled.specs.Elements.{elementOf}
+use Rattle.compiled.specs.declared.ids.EdgeId.{EdgeId}
+use Rattle.compiled.specs.declared.ids.NodeId.{NodeId}
+use Rattle.compiled.specs.declared.ids.Element.{Element}
+use Rattle.compiled.specs.declared.ids.Element.the-variants.{Node, Edge}
 use Rattle.compiled.specs.Words.{edgeIn, labelsIn, nodesIn, numberIn, propertiesIn}
 use Rattle.compiled.specs.Sound.{Lawful, Rises}
 

@@ -1,3 +1,4 @@
+pub mod Elements
 pub mod Words
 pub mod Parts
 pub mod Sound

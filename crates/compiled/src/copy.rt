@@ -1,5 +1,5 @@
 // The words of the rows of an image.
-use crate::search::UNIT;
+use crate::find::UNIT;
 use crate::word::long;
 use image::Sections;
 use image::edge_cell;

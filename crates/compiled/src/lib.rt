@@ -2,12 +2,16 @@
 // and its restrictor. The layout of both is known here alone; everything else asks these functions.
 mod copy;
 mod fill;
+mod find;
+mod ids;
 mod look;
 mod part;
-mod search;
 mod word;
 
 pub use fill::compile;
+pub use ids::EdgeId;
+pub use ids::Element;
+pub use ids::NodeId;
 pub use look::Value;
 pub use look::edges;
 pub use look::first_end;

@@ -1,17 +1,17 @@
 // Every question to the compiled graph. Words 0 to 3 have the numbers of nodes, edges, labels and properties; then come a word for each
 // edge, and for each label and each property a word, rising by element and name.
-use crate::search::UNIT;
-use crate::search::lower_bound;
+use crate::find::UNIT;
+use crate::find::lower_bound;
 use crate::word::long;
 use crate::word::word;
-use image::EdgeId;
-use image::Element;
-use image::NodeId;
+use crate::ids::EdgeId;
+use crate::ids::Element;
+use crate::ids::NodeId;
 ghost use mathlib.Core.Path.{_≡_};
 ghost use Prim.Native.Nat.{_+_, _*_};
 ghost use Rattle.meaning.specs.Graph.{labelled};
 ghost use Rattle.meaning.specs.Table.{unless};
-ghost use Rattle.image.specs.Elements.{elementOf};
+ghost use Rattle.compiled.specs.Elements.{elementOf};
 ghost use Rattle.compiled.specs.Words.{edgeIn, edgesIn, graphIn, labelsIn, nodesIn, numberIn, propertiesIn};
 ghost use Rattle.compiled.specs.Sound.{Lawful};
 ghost use Rattle.compiled.specs.Values.{valueOf};

@@ -10,7 +10,7 @@ use lib.Dec.{eqb}
 use lib.ListN.{getD, length, length-take, take}
 use lib.Seq.{getD-take}
 use borrow.Author.Tests.{eqb-true, eqb-false}
-use Rattle.image.specs.declared.ids.Element.the-variants as element
+use Rattle.compiled.specs.declared.ids.Element.the-variants as element
 use Rattle.matcher.proofs.Places.{view-first, view-none, viewAt}
 use Rattle.matcher.specs.Conditions.{elementAt, elementOf}
 use Rattle.matcher.specs.Views.{View, firstKnown}

@@ -3,9 +3,9 @@ use mathlib.Core.Path.{_≡_, refl, sym, ap, ap₂, _∙_}
 use mathlib.Core.Option.{Option, none, some}
 use Prim.Native.Nat.{ℕ}
 use lib.Dec.{eqb}
-use Rattle.image.specs.Elements.{elementOf}
+use Rattle.compiled.specs.Elements.{elementOf}
 use Rattle.compiled.specs.Values.{valueOf}
-use Rattle.image.specs.declared.ids.Element.{Element}
+use Rattle.compiled.specs.declared.ids.Element.{Element}
 use Rattle.compiled.specs.declared.look.Value.{Value}
 use Rattle.compiled.specs.declared.look.Value.the-variants as value
 use Rattle.matcher.specs.Conditions.{equal3, propertyAt}

@@ -3,7 +3,7 @@ use mathlib.Core.Path.{_≡_}
 use mathlib.Core.Option.{Option, none, some}
 use Prim.Native.Nat.{ℕ, _<_, _≤_}
 use lib.ListN.{getD}
-use Rattle.image.specs.Elements.{elementOf}
+use Rattle.compiled.specs.Elements.{elementOf}
 use Rattle.matcher.specs.Conditions.{elementAt}
 use Rattle.matcher.specs.Views.{View, firstKnown}
 use Rattle.meaning.specs.Graph.{Element}

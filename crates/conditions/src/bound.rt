@@ -1,5 +1,5 @@
 // The elements that the variables are bound to, as far as they are known.
-use image::Element;
+use compiled::Element;
 ghost use mathlib.Core.Path.{_≡_};
 ghost use Prim.Native.Nat.{_<_};
 ghost use Rattle.conditions.specs.Bound.{bindingOf, boundOf, Unbound, Rebound};

@@ -1,9 +1,9 @@
 // The elements of the variables, from the known words of a record.
 use crate::bound::Binding;
 use crate::bound::Bound;
-use image::EdgeId;
-use image::Element;
-use image::NodeId;
+use compiled::EdgeId;
+use compiled::Element;
+use compiled::NodeId;
 ghost use mathlib.Core.Path.{_≡_};
 ghost use Prim.Native.Nat.{_<_, _≤_};
 ghost use lib.ListN.{getD, length, take};

@@ -6,9 +6,4 @@ pub mod Scanning
 pub mod Causes
 pub mod Sound
 pub mod Rising
-pub mod Narrowing
 pub mod Edges
-pub mod Elements
-pub mod OneRow
-pub mod Labelled
-pub mod Valued

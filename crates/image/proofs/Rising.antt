@@ -1,19 +1,16 @@
--- The pairs of an accepted image rise, so that a test for a smaller pair holds of the first rows only.
+-- The pairs of the label rows and of the property rows of an accepted image rise.
 use mathlib.Core.Path.{_≡_, refl}
 use mathlib.Core.List.{List}
 use mathlib.Core.Bool.{Bool, true, false, not, _&&_}
 use mathlib.Core.Option.{none}
 use mathlib.Core.Logic.{_≢_}
-use Prim.Native.Nat.{ℕ, zero, suc, _+_, _<_, _≤_}
+use Prim.Native.Nat.{ℕ, zero, suc, _+_, _<_}
 use native.Mathlib.Omega.{arith}
 use lib.Dec.{eqb, ltb}
 use borrow.Author.Tests.{eqb-true, eqb-false}
-use Rattle.meaning.specs.Image.{nodeCount, edgeCount, labelCell, propertyCell, pairLess, rises, badLabel, badProperty, imageFault}
+use Rattle.meaning.specs.Image.{nodeCount, edgeCount, labelCount, propertyCount, labelCell, propertyCell, pairLess, rises, badLabel, badProperty, imageFault}
 use Rattle.meaning.proofs.Logic.{and-r, not-false}
-use Rattle.image.specs.declared.keyed.Keyed.{Keyed}
-use Rattle.image.specs.declared.keyed.Keyed.the-variants.{Labels, Properties}
-use Rattle.image.specs.declared.lowest.Section.the-variants as section
-use Rattle.image.specs.Keyed.{keyCount, keyCell, keyLess}
+use Rattle.image.specs.declared.lowest.Section.the-variants.{Labels, Properties}
 use Rattle.image.proofs.Order.{less-trans}
 use Rattle.image.proofs.Sound.{sound-row}
 
@@ -45,17 +42,8 @@ module _ (b : List ℕ) (i : ℕ) where
       and-r p q (not-false (p && q) h)
 
 module _ (b : List ℕ) (e : imageFault b ≡ none) where
-  pub keys-rise : (k : Keyed) (i j : ℕ) → i < j → j < keyCount k b → pairLess (keyCell k b i 0) (keyCell k b i 1) (keyCell k b j 0) (keyCell k b j 1) ≡ true
-  keys-rise Labels = rising (λ i. labelCell b i 0) (λ i. labelCell b i 1) (keyCount Labels b) (λ i h. label-step b i (sound-row b e section.Labels (suc i) h))
-  keys-rise Properties = rising (λ i. propertyCell b i 0) (λ i. propertyCell b i 1) (keyCount Properties b) (λ i h. property-step b i (sound-row b e section.Properties (suc i) h))
+  pub labels-rise : (i j : ℕ) → i < j → j < labelCount b → pairLess (labelCell b i 0) (labelCell b i 1) (labelCell b j 0) (labelCell b j 1) ≡ true
+  labels-rise = rising (λ i. labelCell b i 0) (λ i. labelCell b i 1) (labelCount b) (λ i h. label-step b i (sound-row b e Labels (suc i) h))
 
-  -- what comes before (x, y) stands below it
-  pub keys-below : (k : Keyed) (x y i j : ℕ) → i ≤ j → j < keyCount k b → keyLess k b x y j ≡ true → keyLess k b x y i ≡ true
-  unfolding keyLess
-  keys-below k x y i j h l t = go (eqb i j) refl
-    where
-      go : (c : Bool) → eqb i j ≡ c → pairLess (keyCell k b i 0) (keyCell k b i 1) x y ≡ true
-      go true q = rw (eqb-true i j q) t
-      go false q =
-          let z : i ≢ j = eqb-false i j q in
-          less-trans (keyCell k b i 0) (keyCell k b i 1) (keyCell k b j 0) (keyCell k b j 1) x y (keys-rise k i j (omega arith) l) t
+  pub properties-rise : (i j : ℕ) → i < j → j < propertyCount b → pairLess (propertyCell b i 0) (propertyCell b i 1) (propertyCell b j 0) (propertyCell b j 1) ≡ true
+  properties-rise = rising (λ i. propertyCell b i 0) (λ i. propertyCell b i 1) (propertyCount b) (λ i h. property-step b i (sound-row b e Properties (suc i) h))

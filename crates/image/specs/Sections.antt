@@ -31,7 +31,7 @@ pub record Laid (b : List ℕ) (s : Sections) : Type 0 where
 abbrev pub crowded : Sections → Bool
 crowded s = not ((leb (s .nodes .count) 200 && leb (s .edges .count) 200) && (leb (s .labels .count) 800 && leb (s .properties .count) 2000))
 
--- what a look-up asks of its caller, who has it from the reader
+-- what is asked of whoever reads cells: the reader found no fault
 pub record Checked (b : List ℕ) (s : Sections) : Type 0 where
   pub laid : Laid b s
   pub sound : imageFault b ≡ none

@@ -30,7 +30,7 @@ use Rattle.meaning.specs.Pattern.{Pattern}
 use Rattle.meaning.specs.Table.{patternOf}
 use Rattle.compiled.specs.Words.{graphIn, nodesIn}
 use Rattle.path.specs.Masks.{baseIf}
-use Rattle.promises.specs.Prepared.{Source}
+use Rattle.plan.specs.Prepared.{Source}
 use Rattle.search.specs.Joined.{Joins, NoneBelow}
 use Rattle.judge.specs.Judging.{JudgedAnswer, NodesBelow, NoneShorter, RepeatsNothing, Small, Told, told}
 use Rattle.judge.proofs.Restrictors.{base-is, from-one, is-shortest, not-shortest, to-four}

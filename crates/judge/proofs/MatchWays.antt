@@ -20,10 +20,10 @@ use Rattle.meaning.specs.Basics.{eight}
 use Rattle.compiled.specs.Words.{graphIn}
 use Rattle.meaning.specs.Table.{patternOf}
 use Rattle.meaning.specs.Typing.{typeOf}
-use Rattle.plan.proofs.RowOfTable.{ready-is, row-is}
+use Rattle.ends.proofs.RowOfTable.{ready-is, row-is}
 use Rattle.promises.specs.Matched.{PathEnds}
-use Rattle.promises.specs.Prepared.{Prepared, root}
-use Rattle.views.specs.Slots.{Slotted}
+use Rattle.plan.specs.Prepared.{Prepared, root}
+use Rattle.records.specs.Slots.{Slotted}
 use Rattle.judge.specs.Judging.{Matches}
 use Rattle.judge.proofs.ToldWords.{skip-first}
 

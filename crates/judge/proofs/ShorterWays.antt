@@ -5,12 +5,12 @@ use mathlib.Core.List.{List}
 use Prim.Native.Nat.{ℕ, _+_, _<_, _≤_}
 use native.Mathlib.Omega.{arith}
 use Rattle.bounds.specs.Lengths.{LeastLength}
-use Rattle.joined.proofs.RecordEnds.{accepted-granted, length-joins}
+use Rattle.walk.proofs.RecordEnds.{accepted-granted, length-joins}
 use Rattle.meaning.proofs.Logic.{no-false, no-true}
 use Rattle.compiled.specs.Words.{graphIn}
 use Rattle.meaning.specs.Table.{patternOf}
 use Rattle.path.specs.Masks.{baseIf}
-use Rattle.promises.specs.Prepared.{Source}
+use Rattle.plan.specs.Prepared.{Source}
 use Rattle.promises.specs.Walked.{JoinsIs}
 use Rattle.search.proofs.Joined.{none-below-next}
 use Rattle.search.specs.Joined.{NoneBelow}

@@ -33,7 +33,7 @@ use Rattle.meaning.specs.Record.{recordOf}
 use Rattle.meaning.specs.Table.{patternFault, patternOf}
 use Rattle.meaning.specs.Typing.{typeOf}
 use Rattle.plan.specs.Fitted.{PlanFilled}
-use Rattle.promises.specs.Prepared.{FitIs, PlanIs, Prepared, Source}
+use Rattle.plan.specs.Prepared.{FitIs, PlanIs, Prepared, Source}
 use Rattle.judge.specs.Judging.{JudgedAnswer, Judges, JudgesIn, Matches, NodesBelow, NodesWithin, Told}
 use Rattle.judge.proofs.Restrictors.{image-accepted}
 use Rattle.judge.proofs.AnswerWays.{nodes-same}

@@ -1,10 +1,10 @@
 // Whether the words, from the path on, are values with which the path is a match of the pattern.
 use compiled::rows;
-use probe::known_slots;
-use probe::path_ends;
+use oracle::known_slots;
+use oracle::path_ends;
 ghost use lib.ListN.{length};
 ghost use Rattle.judge.specs.Judging.{Matches};
-ghost use Rattle.promises.specs.Prepared.{Prepared};
+ghost use Rattle.plan.specs.Prepared.{Prepared};
 ghost use Rattle.compiled.specs.Parts.{tableIn};
 ghost use Rattle.compiled.specs.Words.{graphIn};
 

@@ -1,5 +1,5 @@
 // Whether the nodes of the path are nodes of the graph.
-use views::word;
+use records::word;
 ghost use Rattle.judge.specs.Judging.{NodesWithin, Told};
 
 pub fn nodes_within(rec: &[u16], last: usize, count: usize) -> bool

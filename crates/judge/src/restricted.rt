@@ -6,7 +6,7 @@ ghost use Prim.Native.Nat.{_≤_};
 ghost use lib.ListN.{length};
 ghost use Rattle.judge.specs.Judging.{JudgedAnswer, NodesBelow, Told};
 ghost use Rattle.compiled.specs.Words.{graphIn, nodesIn};
-ghost use Rattle.promises.specs.Prepared.{PlanIs, Source};
+ghost use Rattle.plan.specs.Prepared.{PlanIs, Source};
 ghost use Rattle.compiled.specs.Parts.{tableIn};
 
 // Whether an answer of the pattern is one of the restricted pattern. The restrictors 2 and 4 are simple, 3 and 4 shortest.

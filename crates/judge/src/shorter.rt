@@ -1,12 +1,12 @@
 // For `shortest`: whether an answer of the base joins the same nodes with fewer edges.
 use bounds::least_length;
-use joined::joined;
+use walk::joined;
 ghost use mathlib.Core.Path.{_≡_};
 ghost use Prim.Native.Nat.{_<_, _≤_};
 ghost use lib.ListN.{length};
 ghost use Rattle.judge.specs.Judging.{NoneShorter};
 ghost use Rattle.compiled.specs.Words.{graphIn, nodesIn};
-ghost use Rattle.promises.specs.Prepared.{PlanIs, Source};
+ghost use Rattle.plan.specs.Prepared.{PlanIs, Source};
 ghost use Rattle.compiled.specs.Parts.{tableIn};
 
 // Whether no answer with fewer than n edges leads from u to v; no match has fewer than the first asked.

@@ -1,4 +1,3 @@
-pub mod Prepared
 pub mod Goals
 pub mod Matched
 pub mod Steps

@@ -8,7 +8,7 @@ use Rattle.compiled.proofs.look.property.Reads as reads
 use Rattle.compiled.proofs.look.property.Lts as lts
 use Rattle.compiled.proofs.look.pair_of.Reads as pair-of-reads
 use Rattle.compiled.proofs.look.properties.Reads as properties-reads
-use Rattle.compiled.proofs.search.lower_bound.Reads as lower-bound-reads
+use Rattle.compiled.proofs.find.lower_bound.Reads as lower-bound-reads
 use Rattle.compiled.proofs.word.word.Reads as word-reads
 
 pair-of-requires : tie.Need-pair-of-requires

@@ -1,5 +1,0 @@
-pub mod Forms
-pub mod Leading
-pub mod Filling
-pub mod LeafRows
-pub mod WayWays

@@ -1,2 +1,0 @@
-pub mod RecordEnds
-pub mod Walking

@@ -1,4 +1,0 @@
-pub mod SetWords
-pub mod LeavingWays
-pub mod NodeMasks
-pub mod Crossing
