@@ -4,8 +4,6 @@
 """
 
 import datetime
-import os
-import re
 import signal
 import sqlite3
 import subprocess
@@ -22,12 +20,6 @@ from postgres import PostgreSQL
 
 LENGTHS = [10, 25, 50, 75, 100, 125, 150, 175]
 DOCUMENT = "docs/BENCH.md"
-
-
-def machine():
-    model = re.search(r"model name\s*: (.*)", open("/proc/cpuinfo").read())
-    system = re.search(r'PRETTY_NAME="(.*)"', open("/etc/os-release").read())
-    return f"{model.group(1) if model else 'unknown processor'}, {os.cpu_count()} cores, {system.group(1) if system else 'Linux'}"
 
 
 def versions(postgres):
@@ -55,7 +47,7 @@ def report(rows, found, stated, shape):
     without = [f"{row.case.name}: {row.case.without}." for row in rows if row.case.without]
     slow = demands.slow_cases(rows)
     return "\n\n".join([
-        f"{date}, {machine()}; {stated}. Best of {rivals.RUNS} runs, of one where a run takes over {rivals.LONG_RUN_SECONDS} s.",
+        f"{date}, {measure.machine()}; {stated}. Best of {rivals.RUNS} runs, of one where a run takes over {rivals.LONG_RUN_SECONDS} s.",
         shape(tables.main_table(rows)), *without,
         "Pages:", shape(tables.page_table(rows)),
         "The line with a group, a page of the records of so many edges:", shape(tables.growth_table(found)),

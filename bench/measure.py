@@ -1,5 +1,6 @@
 """Measures every case with the engine and with whatever else can express it."""
 
+import os
 import re
 import subprocess
 import sys
@@ -11,6 +12,7 @@ import rivals
 SECONDS = 10  # the limit of another program on a case, where the engine takes no longer than half of it
 FLIGHTS_SECONDS = 60  # there a number is wanted, not a bound
 ENGINE_SECONDS = 20
+PAGE_SECONDS = 60  # engine.c gives up a page after these
 GROWTH_RUNS = 20  # pages of a few milliseconds each, which are compared with one another
 GROWTH_ROUNDS = 3  # all lengths in turn, so that what disturbs one of them for a while does not decide
 FOLDER = Path("target/bench")
@@ -34,9 +36,22 @@ class Row:
     others: dict = field(default_factory=dict)  # name to Result, where the case can be expressed
 
 
-def engine(folder, case, most_pages=0, edges=0, runs=rivals.RUNS):
-    command = [FOLDER / "engine", folder / "image", folder / "pattern", case.restrictor, case.page_words, most_pages or case.most_pages,
-               ENGINE_SECONDS, runs, edges]
+def machine():
+    model = re.search(r"model name\s*: (.*)", open("/proc/cpuinfo").read())
+    system = re.search(r'PRETTY_NAME="(.*)"', open("/etc/os-release").read())
+    return f"{model.group(1) if model else 'unknown processor'}, {os.cpu_count()} cores, {system.group(1) if system else 'Linux'}"
+
+
+def written(case):
+    """The folder of a case, with its image and its pattern."""
+    folder = FOLDER / re.sub("[^a-z0-9]+", "-", case.name).strip("-")
+    case.write(folder)
+    return folder
+
+
+def engine(folder, case, most_pages=0, edges=0, runs=rivals.RUNS, seconds=ENGINE_SECONDS, programs=FOLDER):
+    command = [programs / "engine", folder / "image", folder / "pattern", case.restrictor, case.page_words, most_pages or case.most_pages,
+               seconds, runs, edges]
     run = subprocess.run([str(part) for part in command], capture_output=True, text=True)
     if run.returncode:
         raise SystemExit(f"{case.name}: the engine ended with {run.returncode} {run.stdout} {run.stderr}")
@@ -57,8 +72,7 @@ def agree(row):
 
 
 def measure(case, programs, known):
-    folder = FOLDER / re.sub("[^a-z0-9]+", "-", case.name).strip("-")
-    case.write(folder)
+    folder = written(case)
     row = Row(case, engine(folder, case))
     least = max(SECONDS, 2 * row.engine.seconds)  # so that a program that is given up is known to be slower
     for program in programs:

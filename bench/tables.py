@@ -45,8 +45,8 @@ def cells(row, name):
     return [spent, (">" if found[1] else "") + number(found[0]), times(*found)]
 
 
-def answers(row):
-    return f"{row.engine.answers:,}" + ("" if row.engine.done else " and more")
+def answers(engine):
+    return f"{engine.answers:,}" + ("" if engine.done else " and more")
 
 
 def main_table(rows):
@@ -55,7 +55,7 @@ def main_table(rows):
         head += [name + " us a line", "ratio", "engine is"]
     body = []
     for row in rows:
-        line = [row.case.name, answers(row), f"{row.engine.words:,}", number(1e6 * per_line(row))]
+        line = [row.case.name, answers(row.engine), f"{row.engine.words:,}", number(1e6 * per_line(row))]
         body.append(line + [cell for name in OTHERS for cell in cells(row, name)])
     return [head] + body
 

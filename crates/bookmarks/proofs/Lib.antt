@@ -1,5 +1,5 @@
 pub mod AfterLaws
 pub mod TurnWays
+pub mod HeadWays
 pub mod LiesWays
-pub mod BeyondWays
 pub mod CopyWays

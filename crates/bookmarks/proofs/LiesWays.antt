@@ -29,7 +29,7 @@ module _ (b words : List ℕ) (end : ℕ) where
   lies-whole i s h = let e : i ≡ end = omega (arith, s .low) in record { skip-is = λ q. no-false q; on-is = λ q. rw e at (s .way) }
 
   -- one word more
-  module _ (i : ℕ) (s : OnSoFar b words end i) (h : i < end) (v : ℕ) (v-is : v ≡ getD words i 0) (t : Turn) (z : TurnIs b i true v t) where
+  module _ (i : ℕ) (s : OnSoFar b words end i) (h : i < end) (v : ℕ) (v-is : v ≡ getD words i 0) (t : Turn) (z : TurnIs b i v t) where
     abbrev so-far : List ℕ
     so-far = take i words ++ v ∷ []
 

@@ -1,3 +1,3 @@
 pub mod Turns
-pub mod Lengths
+pub mod Heads
 pub mod Copies

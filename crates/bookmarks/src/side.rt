@@ -14,7 +14,7 @@ pub fn lies(bookmark: &[u16], words: &[u16], end: usize) -> Turn
     let mut i: usize = 0;
     while i < end {
         let next = i + 1;
-        let t = turn_at(bookmark, i, true, wide(words[i]));
+        let t = turn_at(bookmark, i, wide(words[i]));
         if t.skip {
             return t;
         }

@@ -6,17 +6,18 @@ use mathlib.Core.Option.{none}
 use Prim.Native.Nat.{_-_, _/_, _≤_, ℕ}
 use native.Mathlib.Omega.{arith}
 use lib.ListN.{length}
+use Rattle.compiled.specs.Parts.{patternIn, tableIn}
+use Rattle.plan.specs.Ready.{root}
 use Rattle.compiled.proofs.Graphs.{valid}
 use Rattle.compiled.specs.Sound.{Lawful}
-use Rattle.meaning.specs.Answer.{Base}
 use Rattle.meaning.specs.Assignment.{Assignment}
 use Rattle.meaning.specs.Basics.{eight}
 use Rattle.meaning.specs.Graph.{Walk, len}
 use Rattle.compiled.specs.Words.{graphIn}
 use Rattle.meaning.specs.Meaning.{Meaning}
 use Rattle.meaning.specs.Record.{places, variableWords}
-use Rattle.meaning.specs.Table.{patternFault, patternOf}
-use Rattle.promises.specs.Goals.{baseListing}
+use Rattle.meaning.specs.Table.{patternFault}
+use Rattle.promises.specs.Goals.{baseIn, baseListing}
 use Rattle.rows.specs.Faults.{Stands}
 use Rattle.search.proofs.AnswerClasses.{answer-dead}
 use Rattle.search.proofs.Beginnings.{head-is}
@@ -26,27 +27,27 @@ use Rattle.table.proofs.Roots.{root-accepted, root-long, root-pattern, root-sta
 use Rattle.bounds.specs.Lengths.{GreatestLength, LeastLength}
 use Rattle.bounds.specs.Rows.{Fewest, Most}
 
-module _ (t : List ℕ) (ok : patternFault t ≡ none) where
-  pub root-some : (k : ℕ) → k ≡ length t / 5 → 1 ≤ k
-  root-some k e = omega (arith, root-long t ok)
+module _ (plan : List ℕ) (ok : patternFault (tableIn plan) ≡ none) where
+  pub root-some : (k : ℕ) → k ≡ length (tableIn plan) / 5 → 1 ≤ k
+  root-some k e = omega (arith, root-long (tableIn plan) ok)
 
-  pub root-asked : (k : ℕ) → k ≡ length t / 5 → Stands t (k - 1)
-  root-asked k e = rw e (root-stands t ok)
+  pub root-asked : (k : ℕ) → k ≡ length (tableIn plan) / 5 → Stands (tableIn plan) (k - 1)
+  root-asked k e = rw e (root-stands (tableIn plan) ok)
 
   -- no match of the root row has the length
-  length-dead : (graph : List ℕ) → Lawful graph → (b : Base) (n : ℕ) → ((p : Walk) (μ : Assignment) → Meaning (graphIn graph) (patternOf t) p μ → len p ≡ n → ⊥) → Dead (n ∷ []) (baseListing graph t b)
+  length-dead : (graph : List ℕ) → Lawful graph → (n : ℕ) → ((p : Walk) (μ : Assignment) → Meaning (graphIn graph) (patternIn plan) p μ → len p ≡ n → ⊥) → Dead (n ∷ []) (baseListing graph plan)
   unfolding search-opened baseListing
-  length-dead graph sound b n h = answer-dead (graphIn graph) (valid graph sound) (patternOf t) (root-accepted t ok .sound) (record { base = b; shortest = false }) (n ∷ []) (λ p μ a k.
+  length-dead graph sound n h = answer-dead (graphIn graph) (valid graph sound) (patternIn plan) (root-accepted (tableIn plan) ok .sound) (record { base = baseIn plan; shortest = false }) (n ∷ []) (λ p μ a k.
       h p μ (a .base-answer .means) (sym (head-is n (len p) [] (places p ++ variableWords eight μ) k)))
 
-  pub greatest-is : (k r : ℕ) → k ≡ length t / 5 → Most t (k - 1) r → GreatestLength t r
-  greatest-is k r q m₀ = let m : Most t (length t / 5 - 1) r = rw q at m₀ in record {
+  pub greatest-is : (k r : ℕ) → k ≡ length (tableIn plan) / 5 → Most (tableIn plan) (k - 1) r → GreatestLength plan r
+  greatest-is k r q m₀ = let m : Most (tableIn plan) (root (tableIn plan)) r = rw q at m₀ in record {
     small = m .small;
-    dead = λ graph sound l b n h. length-dead graph sound b n (λ p μ a e. omega (arith, m .is l (graphIn graph) p μ (rw (root-pattern t ok) a)));
+    dead = λ graph sound l n h. length-dead graph sound n (λ p μ a e. omega (arith, m .is l (graphIn graph) p μ (rw (root-pattern (tableIn plan) ok) a)));
   }
 
-  pub least-is : (k r : ℕ) → k ≡ length t / 5 → Fewest t (k - 1) r → LeastLength t r
-  least-is k r q m₀ = let m : Fewest t (length t / 5 - 1) r = rw q at m₀ in record {
+  pub least-is : (k r : ℕ) → k ≡ length (tableIn plan) / 5 → Fewest (tableIn plan) (k - 1) r → LeastLength plan r
+  least-is k r q m₀ = let m : Fewest (tableIn plan) (root (tableIn plan)) r = rw q at m₀ in record {
     small = m .small;
-    dead = λ graph sound b n h. length-dead graph sound b n (λ p μ a e. omega (arith, m .is (graphIn graph) p μ (rw (root-pattern t ok) a)));
+    dead = λ graph sound n h. length-dead graph sound n (λ p μ a e. omega (arith, m .is (graphIn graph) p μ (rw (root-pattern (tableIn plan) ok) a)));
   }

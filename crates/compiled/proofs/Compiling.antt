@@ -1,10 +1,10 @@
 -- That the words are the graph and the table: what `compile` promises.
 use mathlib.Core.Path.{_≡_, refl, sym, ap, ap₂, _∙_, fun-ext}
-use mathlib.Core.List.{List, map}
+use mathlib.Core.List.{List, _++_, map}
 use mathlib.Core.Bool.{Bool, true, false, not, _&&_, _||_}
 use mathlib.Core.Option.{Option, none, some}
 use mathlib.Core.Logic.{_⊎_, inl, inr}
-use Prim.Native.Nat.{ℕ, zero, suc, _*_, _+_, _%_, _/_, _<_, _≤_}
+use Prim.Native.Nat.{ℕ, zero, suc, _*_, _+_, _-_, _%_, _/_, _<_, _≤_}
 use native.Mathlib.Omega.{arith}
 use lib.Dec.{eqb, ltb}
 use lib.ListN.{drop, getD, length, length-drop, length-set, length-take, set, take}
@@ -19,6 +19,9 @@ use Rattle.meaning.specs.Table.{badLength, patternFault, rowsOf, tableFault}
 use Rattle.meaning.proofs.Causes.{first-none, whole-none}
 use Rattle.meaning.proofs.ImageRead.{image-read}
 use Rattle.meaning.proofs.Logic.{and-l, and-r, either, or-cases, or-false-r}
+use Rattle.meaning.specs.Typing.{typeOf}
+use Rattle.table.specs.Variables.{patternAt}
+use Rattle.typecode.specs.Codes.{codeOf}
 use Rattle.image.specs.Sections.{Checked}
 use Rattle.image.specs.declared.sections.Sections.{Sections}
 use Rattle.image.proofs.Edges.{ends-are-nodes}
@@ -26,7 +29,11 @@ use Rattle.image.proofs.Rising.{labels-rise, properties-rise}
 use Rattle.compiled.specs.Words.{edgeIn, edgeOf, edgesIn, graphIn, labelsIn, names, nodesIn, numberIn, pairOf, propertiesIn, someNames, valueIn, valueOf}
 use Rattle.compiled.specs.Parts.{Tabled, restrictorIn, tableIn}
 use Rattle.compiled.specs.Sound.{Lawful, Rises, Sound}
-use Rattle.compiled.specs.Copies.{Compiled, EdgeWord, EdgesPut, GraphFilled, LabelWord, LabelsPut, PartFilled, PropertiesPut, PropertyWord, TablePut}
+use Rattle.compiled.specs.Copies.{Compiled, EdgeWord, EdgesPut, GraphFilled, HeadFilled, LabelWord, LabelsPut, PartFilled, PropertiesPut, PropertyWord, RowsFilled, TablePut}
+use Rattle.compiled.specs.Derived.{RowsAre, planWords, typeIn}
+use Rattle.compiled.proofs.Frames.{restrictor-kept, table-kept, tabled-kept}
+use Rattle.compiled.proofs.Parts.{accepted-short}
+use Rattle.compiled.proofs.RowWords.{behind-long, behind-low, behind-word}
 
 -- ------------------------------------------------------------------ the words that were put
 -- the words are the rows of the image
@@ -167,21 +174,15 @@ graph-filled b s k g₀ g₂ g₃ g room es ls ps =
     record { lawful = lawful b (k .sound) g c; is = graph-is b g c }
 
 -- ------------------------------------------------------------------ the part
-pub accepted-short : (t : List ℕ) → patternFault t ≡ none → length t ≤ 320
-unfolding patternFault badLength
-accepted-short t e =
-    let b = whole-none 11 (badLength t) (first-none (whole 11 (badLength t)) (tableFault (rowsOf t)) e .0) in
-    ltb-false 320 (length t) (or-false-r (eqb (length t) 0) _ (or-false-r (not (eqb (length t % 5) 0)) _ b))
-
--- the way out of fill_part
-module _ (t : List ℕ) (n : ℕ) (p₀ p : List ℕ) (short : length t ≤ 320) (room : 328 ≤ length p₀) (put : TablePut t (length t) (set (set p₀ 0 (length t)) 1 n) p) where
+-- the table and the restrictor, once they are put
+module _ (t : List ℕ) (n : ℕ) (p₀ p : List ℕ) (short : length t ≤ 320) (room : length p₀ ≡ planWords) (put : TablePut t (length t) (set (set p₀ 0 (length t)) 1 n) p) where
   word-0 : getD p 0 0 ≡ length t
   word-0 = put .put .low 0 (omega arith) ∙ getD-set-other (set p₀ 0 (length t)) 1 0 n 0 (λ e. omega arith) ∙ getD-set-same p₀ 0 (length t) 0 (omega arith)
 
   word-1 : getD p 1 0 ≡ n
   word-1 = put .put .low 1 (omega arith) ∙ getD-set-same (set p₀ 0 (length t)) 1 n 0 (simp length-set (omega arith))
 
-  long : 328 ≤ length p
+  long : length p ≡ planWords
   long = omega (arith, put .put .long, length-set (set p₀ 0 (length t)) 1 n, length-set p₀ 0 (length t))
 
   whole-table : length (take (length t) (drop 8 p)) ≡ length t
@@ -191,18 +192,64 @@ module _ (t : List ℕ) (n : ℕ) (p₀ p : List ℕ) (short : length t ≤ 320)
   unfolding tableIn
   the-table = rw word-0 (ext-getD 0 (take (length t) (drop 8 p)) t whole-table (λ i h. getD-take (length t) (drop 8 p) i 0 (omega (arith, whole-table)) ∙ getD-drop 8 p i 0 ∙ put .put .here i (omega (arith, whole-table)) .is))
 
-  pub part-filled : PartFilled t n p
+  -- the way out of fill_head
+  pub head-filled : HeadFilled t n p
   unfolding restrictorIn
-  part-filled = record {
-    table = record { size = ap length the-table ∙ sym word-0; short = omega (arith, word-0); small = λ j h. put .put .here j (omega (arith, word-0)) .small };
+  head-filled = record {
+    tabled = record { size = ap length the-table ∙ sym word-0; short = omega (arith, word-0); small = λ j h. put .put .here j (omega (arith, word-0)) .small };
     is = the-table;
     restrictor-is = ap restrictorOf word-1;
   }
 
+-- the way out of fill_part
+module _ (t : List ℕ) (n : ℕ) (p words : List ℕ) (e : patternFault t ≡ none) (h : HeadFilled t n p) (long : length p ≡ planWords) (l : length words ≡ length (take (length p - 328) (drop 328 p))) (r : RowsFilled t words) where
+  q : List ℕ
+  q = take 328 p ++ (words ++ drop (length p - 328) (drop 328 p))
+
+  q-long : length q ≡ length p
+  unfolding q
+  q-long = behind-long p words long l
+
+  q-low : (j : ℕ) → j < 328 → getD q j 0 ≡ getD p j 0
+  unfolding q
+  q-low = behind-low p words long l
+
+  q-table : tableIn q ≡ t
+  q-table = table-kept p q (h .tabled) (omega (arith, long)) q-long q-low ∙ h .is
+
+  few : (i : ℕ) → i * 5 + 5 ≤ length t → i < 64
+  few i k = omega (arith, accepted-short t e)
+
+  q-word : (j : ℕ) → j < 576 → getD q (328 + j) 0 ≡ getD words j 0
+  unfolding q
+  q-word = behind-word p words long l
+
+  q-types : (i : ℕ) → i * 5 + 5 ≤ length t → (x : ℕ) → 1 ≤ x → x < 9 → typeIn q i x ≡ codeOf (typeOf (patternAt t i) x)
+  q-types i k x a b =
+      let z : 8 * i + 391 + x ≡ 328 + (8 * i + 63 + x) = omega arith in
+      ap (λ (j : ℕ). getD q j 0) z ∙ q-word (8 * i + 63 + x) (omega (arith, few i k)) ∙ r .types i k x a b
+
+  q-rows : RowsAre q
+  q-rows = record { variables = rw q-table (λ i k. q-word i (omega (arith, few i k)) ∙ r .variables i k); types = rw q-table q-types }
+
+  filled-part : PartFilled t n (take 328 p ++ (words ++ drop (length p - 328) (drop 328 p)))
+  unfolding q
+  filled-part = record {
+    tabled = tabled-kept p q (h .tabled) (omega (arith, long)) q-long q-low;
+    rows = q-rows;
+    is = q-table;
+    restrictor-is = restrictor-kept p q (h .tabled) (omega (arith, long)) q-long q-low ∙ h .restrictor-is;
+  }
+
+pub part-filled : (t : List ℕ) (n : ℕ) (p₀ p words : List ℕ) → patternFault t ≡ none → HeadFilled t n p → length p₀ ≡ planWords → length p ≡ length p₀ → length words ≡ length (take (length p - 328) (drop 328 p)) → RowsFilled t words
+    → PartFilled t n (take 328 p ++ (words ++ drop (length p - 328) (drop 328 p)))
+part-filled t n p₀ p words e h room long l r = filled-part t n p words e h (long ∙ room) l r
+
 -- the way out of compile
 pub compiled-is : (b t : List ℕ) (n : ℕ) (g p : List ℕ) → patternFault t ≡ none → GraphFilled b g → PartFilled t n p → Compiled b t n g p
 compiled-is b t n g p e x y = record {
-  sound = record { graph = x .lawful; table = y .table; accepted = ap patternFault (y .is) ∙ e };
+  sound = record { lawful = x .lawful; tabled = y .tabled; accepted = ap patternFault (y .is) ∙ e };
+  rows = y .rows;
   graph-is = x .is;
   table-is = y .is;
   restrictor-is = y .restrictor-is;

@@ -35,7 +35,7 @@ module _ (p q : List ℕ) (t : Tabled p) (room : 328 ≤ length p) (long : lengt
       }
 
   pub sound-kept : (g : List ℕ) → Sound g p → Sound g q
-  sound-kept g s = record { graph = s .graph; table = tabled-kept; accepted = ap patternFault table-kept ∙ s .accepted }
+  sound-kept g s = record { lawful = s .lawful; tabled = tabled-kept; accepted = ap patternFault table-kept ∙ s .accepted }
 
 -- one word behind them
 module _ (p : List ℕ) (t : Tabled p) (room : 328 ≤ length p) (i x : ℕ) (h : 328 ≤ i) where

@@ -4,6 +4,8 @@ pub mod Finding
 pub mod Parts
 pub mod Putting
 pub mod Copying
-pub mod Compiling
 pub mod Graphs
 pub mod Frames
+pub mod RowWords
+pub mod Compiling
+pub mod DerivedWords

@@ -1,17 +1,22 @@
--- The ways out of the readers of a part.
+-- The ways out of the readers of a part; and how long an accepted table is.
 use mathlib.Core.Path.{_≡_, refl, sym, _∙_}
 use mathlib.Core.List.{List}
-use mathlib.Core.Bool.{Bool, false, true}
-use Prim.Native.Nat.{ℕ, _+_, _<_, _/_}
+use mathlib.Core.Bool.{Bool, false, not, true}
+use mathlib.Core.Option.{none}
+use Prim.Native.Nat.{ℕ, _+_, _<_, _≤_, _%_, _/_}
 use native.Mathlib.Omega.{arith}
 use lib.ListN.{drop, getD, length}
 use lib.Seq.{getD-drop, getD-take}
-use borrow.Author.Tests.{ne-eqb}
+use borrow.Author.Tests.{ltb-false, ne-eqb}
 use lib.Dec.{eqb}
 use Rattle.meaning.specs.Answer.{Restrictor, restrictorOf, simple, trail}
-use Rattle.meaning.specs.Basics.{if_then_else_}
-use Rattle.compiled.specs.declared.part.Base.the-variants.{Trail, Simple}
-use Rattle.compiled.specs.Parts.{Tabled, baseOf, restrictorIn, tableIn}
+use Rattle.meaning.proofs.Causes.{first-none, whole-none}
+use Rattle.meaning.proofs.Logic.{or-false-r}
+use Rattle.meaning.specs.Basics.{if_then_else_, whole}
+use Rattle.meaning.specs.Table.{badLength, patternFault, rowsOf, tableFault}
+use Rattle.path.specs.Masks.{baseOf}
+use Rattle.path.specs.declared.base.Base.the-variants.{Simple, Trail}
+use Rattle.compiled.specs.Parts.{Tabled, restrictorIn, tableIn}
 
 module _ (p : List ℕ) (t : Tabled p) (j : ℕ) (h : j < length (tableIn p)) where
   pub cell-at : getD (tableIn p) j 0 ≡ getD p (8 + j) 0
@@ -59,3 +64,9 @@ module _ (p : List ℕ) (n : ℕ) (h : n ≡ getD p 1 0) where
       go : (c : Bool) → true ≡ (if_then_else_ {A = Restrictor} c (record { base = trail; shortest = true }) (record { base = simple; shortest = true })) .shortest
       go true = refl
       go false = refl
+
+pub accepted-short : (t : List ℕ) → patternFault t ≡ none → length t ≤ 320
+unfolding patternFault badLength
+accepted-short t e =
+    let b = whole-none 11 (badLength t) (first-none (whole 11 (badLength t)) (tableFault (rowsOf t)) e .0) in
+    ltb-false 320 (length t) (or-false-r (eqb (length t) 0) _ (or-false-r (not (eqb (length t % 5) 0)) _ b))

@@ -1,10 +1,15 @@
 -- What the words are made of, and what `compile` promises.
 use mathlib.Core.Path.{_≡_}
 use mathlib.Core.List.{List}
-use Prim.Native.Nat.{ℕ, _+_, _/_, _%_, _<_, _≤_}
+use Prim.Native.Nat.{ℕ, _*_, _+_, _/_, _%_, _<_, _≤_}
 use lib.ListN.{getD, length}
 use Rattle.meaning.specs.Answer.{restrictorOf}
+use Rattle.meaning.specs.Basics.{eight}
 use Rattle.meaning.specs.Image.{edgeRow, graphOf, labelCell, propertyCell}
+use Rattle.meaning.specs.Typing.{typeOf}
+use Rattle.table.specs.Variables.{maskOf, patternAt}
+use Rattle.typecode.specs.Codes.{codeOf}
+use Rattle.compiled.specs.Derived.{RowsAre}
 use Rattle.compiled.specs.Words.{edgeOf, graphIn, pairOf, valueIn}
 use Rattle.compiled.specs.Parts.{Tabled, restrictorIn, tableIn}
 use Rattle.compiled.specs.Sound.{Lawful, Sound}
@@ -51,13 +56,25 @@ pub record GraphFilled (b g : List ℕ) : Type 0 where
   pub lawful : Lawful g
   pub is : graphIn g ≡ graphOf b
 
+-- the variables and the types of each row, in words of their own
+pub record RowsFilled (t words : List ℕ) : Type 0 where
+  pub variables : (i : ℕ) → i * 5 + 5 ≤ length t → getD words i 0 ≡ maskOf (patternAt t i) eight
+  pub types : (i : ℕ) → i * 5 + 5 ≤ length t → (x : ℕ) → 1 ≤ x → x < 9 → getD words (8 * i + 63 + x) 0 ≡ codeOf (typeOf (patternAt t i) x)
+
+pub record HeadFilled (t : List ℕ) (restrictor : ℕ) (p : List ℕ) : Type 0 where
+  pub tabled : Tabled p
+  pub is : tableIn p ≡ t
+  pub restrictor-is : restrictorIn p ≡ restrictorOf restrictor
+
 pub record PartFilled (t : List ℕ) (restrictor : ℕ) (p : List ℕ) : Type 0 where
-  pub table : Tabled p
+  pub tabled : Tabled p
+  pub rows : RowsAre p
   pub is : tableIn p ≡ t
   pub restrictor-is : restrictorIn p ≡ restrictorOf restrictor
 
 pub record Compiled (b t : List ℕ) (restrictor : ℕ) (g p : List ℕ) : Type 0 where
   pub sound : Sound g p
+  pub rows : RowsAre p
   pub graph-is : graphIn g ≡ graphOf b
   pub table-is : tableIn p ≡ t
   pub restrictor-is : restrictorIn p ≡ restrictorOf restrictor

@@ -4,18 +4,15 @@ use mathlib.Core.List.{List}
 use Prim.Native.Nat.{ℕ, _+_, _<_, _≤_}
 use lib.ListN.{drop, getD, length, take}
 use Rattle.meaning.specs.Answer.{Restrictor, restrictorOf}
-use Rattle.meaning.specs.Answer as answer
 use Rattle.meaning.specs.Pattern.{Pattern}
 use Rattle.meaning.specs.Table.{patternOf}
-use Rattle.compiled.specs.declared.part.Base.{Base}
-use Rattle.compiled.specs.declared.part.Base.the-variants.{Trail, Simple}
 
 module _ (p : List ℕ) where
   -- the words of the table, as the pattern was lent
   unfoldable pub tableIn : List ℕ
   tableIn = take (getD p 0 0) (drop 8 p)
 
-  unfoldable pub patternIn : Pattern
+  abbrev pub patternIn : Pattern
   patternIn = patternOf tableIn
 
   unfoldable pub restrictorIn : Restrictor
@@ -26,7 +23,3 @@ pub record Tabled (p : List ℕ) : Type 0 where
   pub size : length (tableIn p) ≡ getD p 0 0
   pub short : getD p 0 0 ≤ 320
   pub small : (j : ℕ) → j < getD p 0 0 → getD p (8 + j) 0 < 65536
-
-abbrev pub baseOf : Base → answer.Base
-baseOf Trail = answer.trail
-baseOf Simple = answer.simple

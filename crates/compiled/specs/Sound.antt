@@ -32,6 +32,6 @@ pub record Lawful (g : List ℕ) : Type 0 where
 
 -- all that anything above asks of the two
 pub record Sound (g p : List ℕ) : Type 0 where
-  pub graph : Lawful g
-  pub table : Tabled p
+  pub lawful : Lawful g
+  pub tabled : Tabled p
   pub accepted : patternFault (tableIn p) ≡ none

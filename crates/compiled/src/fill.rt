@@ -2,22 +2,27 @@
 use crate::copy::edge_word;
 use crate::copy::label_word;
 use crate::copy::property_word;
+use crate::derived::ROWS;
+use crate::derived::TYPES;
 use crate::look::EDGES;
 use crate::look::LABELS;
 use crate::look::PROPERTIES;
 use crate::part::TABLE;
 use crate::word::long;
 use image::Sections;
+use table::fill_types;
+use table::fill_variables;
 ghost use mathlib.Core.Path.{_≡_};
 ghost use mathlib.Core.Option.{none};
 ghost use Prim.Native.Nat.{_≤_};
 ghost use lib.ListN.{length};
 ghost use Rattle.meaning.specs.Table.{patternFault};
 ghost use Rattle.image.specs.Sections.{Checked};
-ghost use Rattle.compiled.specs.Copies.{Compiled, EdgesPut, GraphFilled, LabelsPut, PartFilled, PropertiesPut, TablePut};
+ghost use Rattle.compiled.specs.Copies.{Compiled, EdgesPut, GraphFilled, HeadFilled, LabelsPut, PartFilled, PropertiesPut, RowsFilled, TablePut};
+ghost use Rattle.compiled.specs.Derived.{graphWords, planWords};
 
 fn fill_edges(image: &[u8], s: Sections, graph: &mut [u64])
-    requires { ⌜ Checked (now image) s × (length (now graph) ≡ 3008) ⌝ }
+    requires { ⌜ Checked (now image) s × (length (now graph) ≡ graphWords) ⌝ }
     ensures { λ _. ⌜ EdgesPut (now (image .entry)) (s .edges .count) (now (graph .entry)) (now (graph .exit)) ⌝ }
 {
     let mut i: usize = 0;
@@ -29,7 +34,7 @@ fn fill_edges(image: &[u8], s: Sections, graph: &mut [u64])
 }
 
 fn fill_labels(image: &[u8], s: Sections, graph: &mut [u64])
-    requires { ⌜ Checked (now image) s × (length (now graph) ≡ 3008) ⌝ }
+    requires { ⌜ Checked (now image) s × (length (now graph) ≡ graphWords) ⌝ }
     ensures { λ _. ⌜ LabelsPut (now (image .entry)) (s .labels .count) (now (graph .entry)) (now (graph .exit)) ⌝ }
 {
     let mut i: usize = 0;
@@ -41,7 +46,7 @@ fn fill_labels(image: &[u8], s: Sections, graph: &mut [u64])
 }
 
 fn fill_properties(image: &[u8], s: Sections, graph: &mut [u64])
-    requires { ⌜ Checked (now image) s × (length (now graph) ≡ 3008) ⌝ }
+    requires { ⌜ Checked (now image) s × (length (now graph) ≡ graphWords) ⌝ }
     ensures { λ _. ⌜ PropertiesPut (now (image .entry)) (s .properties .count) (now (graph .entry)) (now (graph .exit)) ⌝ }
 {
     let mut i: usize = 0;
@@ -54,7 +59,7 @@ fn fill_properties(image: &[u8], s: Sections, graph: &mut [u64])
 
 // The graph of an accepted image.
 fn fill_graph(image: &[u8], s: Sections, graph: &mut [u64])
-    requires { ⌜ Checked (now image) s × (length (now graph) ≡ 3008) ⌝ }
+    requires { ⌜ Checked (now image) s × (length (now graph) ≡ graphWords) ⌝ }
     ensures { λ _. ⌜ GraphFilled (now (image .entry)) (now (graph .exit)) ⌝ }
 {
     graph[0] = s.nodes.count as u64;
@@ -80,13 +85,31 @@ fn fill_table(pat: &[u16], plan: &mut [u64])
 }
 
 // The table and the restrictor of a part.
-fn fill_part(pat: &[u16], restrictor: u64, plan: &mut [u64])
-    requires { ⌜ (length (now pat) ≤ 320) × (328 ≤ length (now plan)) ⌝ }
-    ensures { λ _. ⌜ PartFilled (now (pat .entry)) restrictor (now (plan .exit)) ⌝ }
+fn fill_head(pat: &[u16], restrictor: u64, plan: &mut [u64])
+    requires { ⌜ (patternFault (now pat) ≡ none) × (length (now plan) ≡ planWords) ⌝ }
+    ensures { λ _. ⌜ HeadFilled (now (pat .entry)) restrictor (now (plan .exit)) ⌝ }
 {
     plan[0] = pat.len() as u64;
     plan[1] = restrictor;
     fill_table(pat, plan);
+}
+
+// The variables and the types of every row.
+fn fill_rows(pat: &[u16], words: &mut [u64])
+    requires { ⌜ (patternFault (now pat) ≡ none) × (576 ≤ length (now words)) ⌝ }
+    ensures { λ _. ⌜ RowsFilled (now (pat .entry)) (now (words .exit)) ⌝ }
+{
+    fill_variables(pat, words);
+    fill_types(pat, &mut words[TYPES..]);
+}
+
+// The part: table, restrictor, and what the table says of its rows.
+fn fill_part(pat: &[u16], restrictor: u64, plan: &mut [u64])
+    requires { ⌜ (patternFault (now pat) ≡ none) × (length (now plan) ≡ planWords) ⌝ }
+    ensures { λ _. ⌜ PartFilled (now (pat .entry)) restrictor (now (plan .exit)) ⌝ }
+{
+    fill_head(pat, restrictor, plan);
+    fill_rows(pat, &mut plan[ROWS..]);
 }
 
 // All that a call reads.
@@ -98,7 +121,7 @@ pub fn compile(
     graph: &mut [u64],
     plan: &mut [u64],
 )
-    requires { ⌜ Checked (now image) s × (patternFault (now pat) ≡ none) × (length (now graph) ≡ 3008) × (328 ≤ length (now plan)) ⌝ }
+    requires { ⌜ Checked (now image) s × (patternFault (now pat) ≡ none) × (length (now graph) ≡ graphWords) × (length (now plan) ≡ planWords) ⌝ }
     ensures { λ _. ⌜ Compiled (now (image .entry)) (now (pat .entry)) restrictor (now (graph .exit)) (now (plan .exit)) ⌝ }
 {
     fill_graph(image, s, graph);

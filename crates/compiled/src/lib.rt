@@ -1,6 +1,7 @@
 // What a call reads, compiled once into lent words: `graph` has the graph of an accepted image, `plan` the table of an accepted pattern
 // and its restrictor. The layout of both is known here alone; everything else asks these functions.
 mod copy;
+mod derived;
 mod fill;
 mod find;
 mod ids;
@@ -8,6 +9,18 @@ mod look;
 mod part;
 mod word;
 
+pub use derived::GRAPH_WORDS;
+pub use derived::PLAN_WORDS;
+pub use derived::leaving;
+pub use derived::put_leaving;
+pub use derived::put_rows_against;
+pub use derived::put_rows_along;
+pub use derived::put_rows_of_node;
+pub use derived::rows_against;
+pub use derived::rows_along;
+pub use derived::rows_of_node;
+pub use derived::types_at;
+pub use derived::variables;
 pub use fill::compile;
 pub use ids::EdgeId;
 pub use ids::Element;
@@ -21,7 +34,6 @@ pub use look::is_labelled;
 pub use look::nodes;
 pub use look::property;
 pub use look::second_end;
-pub use part::Base;
 pub use part::base_of;
 pub use part::is_shortest;
 pub use part::row_at;

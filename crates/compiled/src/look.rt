@@ -2,11 +2,11 @@
 // edge, and for each label and each property a word, rising by element and name.
 use crate::find::UNIT;
 use crate::find::lower_bound;
-use crate::word::long;
-use crate::word::word;
 use crate::ids::EdgeId;
 use crate::ids::Element;
 use crate::ids::NodeId;
+use crate::word::long;
+use crate::word::word;
 ghost use mathlib.Core.Path.{_≡_};
 ghost use Prim.Native.Nat.{_+_, _*_};
 ghost use Rattle.meaning.specs.Graph.{labelled};

@@ -1,11 +1,13 @@
 // Every question to the plan of a part: its table, word for word, and its restrictor.
 use crate::word::word;
+use path::Base;
 use rows::Row;
 ghost use mathlib.Core.Path.{_≡_};
 ghost use Prim.Native.Nat.{_<_, _≤_, _+_, _*_, _/_};
 ghost use lib.ListN.{getD, length};
+ghost use Rattle.path.specs.Masks.{baseOf};
 ghost use Rattle.rows.specs.Rows.{Reads};
-ghost use Rattle.compiled.specs.Parts.{Tabled, baseOf, restrictorIn, tableIn};
+ghost use Rattle.compiled.specs.Parts.{Tabled, restrictorIn, tableIn};
 
 // Where the table begins.
 pub const TABLE: usize = 8;
@@ -46,12 +48,7 @@ pub fn row_at(plan: &[u64], i: usize) -> Row
     }
 }
 
-// What may not occur twice in a path.
-pub enum Base {
-    Trail,
-    Simple,
-}
-
+// The base of the restrictor. The restrictor's number is decoded here alone.
 pub fn base_of(plan: &[u64]) -> Base
     ensures { λ r. ⌜ baseOf r ≡ restrictorIn (now (plan .entry)) .base ⌝ }
 {

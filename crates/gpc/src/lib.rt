@@ -87,7 +87,7 @@ fn judge_in(image: &[u8], pattern: &[u16], restrictor: u64, rec: &[u16], work: &
     requires { ⌜ (fixedFault (now image) (now pattern) restrictor ≡ none) × (20000 ≤ length (now work)) ⌝ }
     ensures { λ r. ⌜ (r ≡ judge (now (image .entry)) (now (pattern .entry)) restrictor (now (rec .entry))) × RestKept (now (work .entry)) (now (work .exit)) ⌝ }
 {
-    judge::judge(image, pattern, restrictor, rec, &mut work[0..20000])
+    calls::judge(image, pattern, restrictor, rec, &mut work[0..20000])
 }
 
 // The judge's answer where nothing refuses the call.
@@ -144,5 +144,5 @@ pub extern "C" fn gpc_fill_page(
     if begun < 2 {
         return begun;
     }
-    lister::fill_page(image, pattern, restrictor, bookmark, page, work, report)
+    calls::fill_page(image, pattern, restrictor, bookmark, page, work, report)
 }

@@ -3,6 +3,6 @@ pub mod NodeWays
 pub mod RepeatWays
 pub mod MatchWays
 pub mod ShorterWays
-pub mod Restrictors
+pub mod ListedWays
 pub mod AnswerWays
 pub mod VerdictWays

@@ -9,7 +9,8 @@ use lib.Dec.{eqb}
 use lib.ListN.{drop, length, take}
 use lib.Seq.{getD-drop, take-length}
 use borrow.Author.Tests.{eq-eqb, ne-eqb}
-use Rattle.ends.specs.Rows.{Ready}
+use Rattle.compiled.specs.Derived.{typesAt}
+use Rattle.compiled.specs.Parts.{patternIn, tableIn}
 use Rattle.matcher.proofs.Opened.{matcher-opened}
 use Rattle.matcher.proofs.Places.{view-frontier, viewAt}
 use Rattle.matcher.specs.Judge.{atEnd}
@@ -18,11 +19,10 @@ use Rattle.matcher.specs.Values.{skip}
 use Rattle.matcher.specs.Views.{isFrontier}
 use Rattle.meaning.specs.Basics.{eight}
 use Rattle.compiled.specs.Words.{graphIn}
-use Rattle.meaning.specs.Table.{patternOf}
 use Rattle.meaning.specs.Typing.{typeOf}
-use Rattle.ends.proofs.RowOfTable.{ready-is, row-is}
+use Rattle.ends.proofs.RowOfTable.{root-matchable, row-is}
 use Rattle.promises.specs.Matched.{PathEnds}
-use Rattle.plan.specs.Prepared.{Prepared, root}
+use Rattle.plan.specs.Ready.{Prepared, root}
 use Rattle.records.specs.Slots.{Slotted}
 use Rattle.judge.specs.Judging.{Matches}
 use Rattle.judge.proofs.ToldWords.{skip-first}
@@ -33,35 +33,35 @@ at-end-frontier none = refl
 at-end-frontier (some []) = refl
 at-end-frontier (some (w ∷ ws)) = refl
 
-module _ (graph t fit plan rec : List ℕ) (last : ℕ) (h : Prepared graph t fit plan rec (length rec) last) where
+module _ (graph fit plan rec : List ℕ) (last : ℕ) (h : Prepared graph fit plan rec (length rec) last) where
   -- the last row of the table
-  root-room : (1 ≤ length t / 5) × (length t / 5 - 1 < 64)
-  root-room = let r : Ready graph t fit plan rec (length rec) last (length t / 5 - 1) = ready-is graph t fit plan rec (length rec) last h in (omega (arith, r .1 .0), r .1 .1)
+  root-room : (1 ≤ length (tableIn plan) / 5) × (length (tableIn plan) / 5 - 1 < 64)
+  root-room = let r = root-matchable graph fit plan rec (length rec) last h in (omega (arith, r .1 .0), r .1 .1)
 
-  pub some-row : (k : ℕ) → k ≡ length t / 5 → 1 ≤ k
+  pub some-row : (k : ℕ) → k ≡ length (tableIn plan) / 5 → 1 ≤ k
   some-row k e = omega (arith, root-room .0)
 
-  pub row-few : (k : ℕ) → k ≡ length t / 5 → k - 1 < 64
+  pub row-few : (k : ℕ) → k ≡ length (tableIn plan) / 5 → k - 1 < 64
   row-few k e = omega (arith, root-room .1)
 
-  module _ (k : ℕ) (k-is : k ≡ length t / 5) (at : List ℕ) (end : ℕ) (s₀ : Slotted (take (length rec) rec) (drop (8 * (k - 1) + 391) plan) (2 * last + 2) at end) where
-    s : Slotted (take (length rec) rec) (drop (8 * (length t / 5 - 1) + 391) plan) (2 * last + 2) at end
+  module _ (k : ℕ) (k-is : k ≡ length (tableIn plan) / 5) (at : List ℕ) (end : ℕ) (s₀ : Slotted (take (length rec) rec) (drop (typesAt (k - 1)) plan) (2 * last + 2) at end) where
+    s : Slotted (take (length rec) rec) (drop (typesAt (root (tableIn plan))) plan) (2 * last + 2) at end
     s = rw k-is at s₀
 
     -- the values end where the words end
-    ends-there : atEnd (afterSlots eight (typeOf (patternOf t)) (skip (2 * last + 1) (drop 1 rec))) ≡ eqb end (length rec)
+    ends-there : atEnd (afterSlots eight (typeOf (patternIn plan)) (skip (2 * last + 1) (drop 1 rec))) ≡ eqb end (length rec)
     ends-there =
-        let f = typeOf (patternOf t) in
+        let f = typeOf (patternIn plan) in
         let k : take (length rec) rec ≡ rec = take-length rec in
-        let e : viewAt rec end ≡ afterSlots eight f (viewAt rec (2 * last + 2)) = rw k at (s .ends f (λ x low high. getD-drop (8 * root t + 391) plan x 0 ∙ row-is graph t fit plan rec (length rec) last h .planned .types x low high)) in
+        let e : viewAt rec end ≡ afterSlots eight f (viewAt rec (2 * last + 2)) = rw k at (s .ends f (λ x low high. getD-drop (typesAt (root (tableIn plan))) plan x 0 ∙ row-is graph fit plan rec (length rec) last h .planned .types x low high)) in
         ap (λ (o : Option (List ℕ)). atEnd (afterSlots eight f o)) (sym (skip-first rec (2 * last) (omega (arith, h .path-known))))
         ∙ (ap atEnd (sym e) ∙ (at-end-frontier (viewAt rec end) ∙ view-frontier rec end))
 
-    pub match-ends : (r : Bool) → end ≡ length rec → PathEnds graph t rec (length rec) last r → Matches (graphIn graph) t rec last r
+    pub match-ends : (r : Bool) → end ≡ length rec → PathEnds graph plan rec (length rec) last r → Matches graph plan rec last r
     match-ends r e p = record {
-      is = p .is ∙ (ap (λ (l : List ℕ). recordEnds (graphIn graph) eight (patternOf t) last (drop 1 l) last) (take-length rec)
-          ∙ sym (ap (λ (b : Bool). b && recordEnds (graphIn graph) eight (patternOf t) last (drop 1 rec) last) (ends-there ∙ eq-eqb end (length rec) e)));
+      is = p .is ∙ (ap (λ (l : List ℕ). recordEnds (graphIn graph) eight (patternIn plan) last (drop 1 l) last) (take-length rec)
+          ∙ sym (ap (λ (b : Bool). b && recordEnds (graphIn graph) eight (patternIn plan) last (drop 1 rec) last) (ends-there ∙ eq-eqb end (length rec) e)));
     }
 
-    pub match-no : (end ≡ length rec → ⊥) → Matches (graphIn graph) t rec last false
-    match-no n = record { is = sym (ap (λ (b : Bool). b && recordEnds (graphIn graph) eight (patternOf t) last (drop 1 rec) last) (ends-there ∙ ne-eqb end (length rec) n)) }
+    pub match-no : (end ≡ length rec → ⊥) → Matches graph plan rec last false
+    match-no n = record { is = sym (ap (λ (b : Bool). b && recordEnds (graphIn graph) eight (patternIn plan) last (drop 1 rec) last) (ends-there ∙ ne-eqb end (length rec) n)) }

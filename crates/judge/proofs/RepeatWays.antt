@@ -16,13 +16,14 @@ use Rattle.meaning.specs.Graph.{Walk, stop}
 use Rattle.path.proofs.Masks.{allowed-keeps, masked-stepped, refused-breaks}
 use Rattle.path.proofs.Restricted.{restricted-stepped}
 use Rattle.path.proofs.Spelled.{spelled-more}
-use Rattle.path.specs.Masks.{Allowed, Masked, MasksGrown, baseIf}
+use Rattle.path.specs.Masks.{Allowed, Masked, MasksGrown, baseOf}
 use Rattle.path.specs.Walks.{spelled, stepped}
+use Rattle.path.specs.declared.base.Base.{Base}
 use Rattle.path.specs.declared.used.Used.{Used}
 use Rattle.judge.specs.Judging.{RepeatsNothing, Small, told}
 use Rattle.judge.proofs.ToldWords.{told-spelled}
 
-module _ (rec : List ℕ) (last : ℕ) (b : Bool) where
+module _ (rec : List ℕ) (last : ℕ) (b : Base) where
   -- the first i steps of the path
   abbrev upto-step : ℕ → Walk
   upto-step i = spelled (drop 1 rec) 0 i
@@ -40,7 +41,7 @@ module _ (rec : List ℕ) (last : ℕ) (b : Bool) where
   pub record Unrepeated (used : Used) (i : ℕ) : Type 0 where
     pub upto : i ≤ last
     pub masked : Small rec last → Masked (spelled (drop 1 rec) 0 i) used
-    pub kept : Small rec last → Restricted (baseIf b) (spelled (drop 1 rec) 0 i)
+    pub kept : Small rec last → Restricted (baseOf b) (spelled (drop 1 rec) 0 i)
 
   pub unrepeated-none : (used : Used) → Masked (stop (getD rec 1 0)) used → Unrepeated used 0
   unfolding spelled
@@ -51,10 +52,10 @@ module _ (rec : List ℕ) (last : ℕ) (b : Bool) where
   }
 
   -- what breaks the base breaks it in every longer path
-  shorter-kept : (n i : ℕ) → i ≤ n → Restricted (baseIf b) (upto-step n) → Restricted (baseIf b) (upto-step i)
+  shorter-kept : (n i : ℕ) → i ≤ n → Restricted (baseOf b) (upto-step n) → Restricted (baseOf b) (upto-step i)
   shorter-kept zero i l h = let z : i ≡ 0 = omega arith in rw z h
   shorter-kept (suc n) i l h = by-eqb i (suc n) (λ e. rw e h)
-      (λ ne. shorter-kept n i (omega arith) (restricted-stepped (baseIf b) (getD rec (2 * n + 2) 0) (getD rec (2 * n + 2 + 1) 0) (upto-step n) .0 (rw (sym (ap upto-step (add-one n)) ∙ step-is n) at h) .0))
+      (λ ne. shorter-kept n i (omega arith) (restricted-stepped (baseOf b) (getD rec (2 * n + 2) 0) (getD rec (2 * n + 2 + 1) 0) (upto-step n) .0 (rw (sym (ap upto-step (add-one n)) ∙ step-is n) at h) .0))
 
   module _ (used : Used) (i : ℕ) (p : Unrepeated used i) (l : i < last) (r : Bool) (a : Allowed used b (getD rec (2 * i + 2) 0) (getD rec (2 * i + 2 + 1) 0) r) where
     edge-small : Small rec last → getD rec (2 * i + 2) 0 < 256
@@ -72,11 +73,11 @@ module _ (rec : List ℕ) (last : ℕ) (b : Bool) where
 
     pub unrepeated-hit : r ≡ false → RepeatsNothing rec last b false
     unrepeated-hit e = record {
-      is = λ s. sym (is-false (unrepeated (baseIf b) (told rec last)) (λ q.
+      is = λ s. sym (is-false (unrepeated (baseOf b) (told rec last)) (λ q.
           refused-breaks used (upto-step i) (p .masked s) (getD rec (2 * i + 2) 0) (getD rec (2 * i + 2 + 1) 0) b r a (edge-small s) (node-small s) e
-          (rw (step-is i) at (shorter-kept last (i + 1) (omega arith) (rw (told-spelled (drop 1 rec) 0 last) at (restricted-iff (baseIf b) (told rec last) .0 q))))));
+          (rw (step-is i) at (shorter-kept last (i + 1) (omega arith) (rw (told-spelled (drop 1 rec) 0 last) at (restricted-iff (baseOf b) (told rec last) .0 q))))));
     }
 
   pub unrepeated-all : (used : Used) (i : ℕ) → Unrepeated used i → last ≤ i → RepeatsNothing rec last b true
   unrepeated-all used i p l = let u : i ≤ last = p .upto in let z : i ≡ last = omega arith in
-      record { is = λ s. sym (restricted-iff (baseIf b) (told rec last) .1 (rw (told-spelled (drop 1 rec) 0 last) (rw z at (p .kept s)))) }
+      record { is = λ s. sym (restricted-iff (baseOf b) (told rec last) .1 (rw (told-spelled (drop 1 rec) 0 last) (rw z at (p .kept s)))) }

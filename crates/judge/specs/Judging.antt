@@ -1,21 +1,22 @@
 -- What the parts of the judge promise. rec are the words that are judged; last is the number of edges of the path that they tell.
 use mathlib.Core.Path.{_≡_}
 use mathlib.Core.List.{List}
-use mathlib.Core.Option.{none}
 use mathlib.Core.Bool.{Bool, _&&_, false, true}
 use Prim.Native.Nat.{_*_, _+_, _<_, _≤_, ℕ}
 use lib.ListN.{drop, getD, length}
+use Rattle.compiled.specs.Parts.{patternIn, restrictorIn}
+use Rattle.compiled.specs.Words.{graphIn}
 use Rattle.matcher.specs.Judge.{atEnd, judgeWords, unrepeated}
 use Rattle.matcher.specs.Records.{afterSlots, edgeWord, nodeWord, recordEnds}
 use Rattle.matcher.specs.Search.{subpath}
 use Rattle.matcher.specs.Values.{skip}
-use Rattle.meaning.specs.Basics.{eight}
-use Rattle.meaning.specs.FullListing.{fixedFault, judge}
-use Rattle.meaning.specs.Graph.{Graph, Walk}
-use Rattle.meaning.specs.Image.{graphOf}
-use Rattle.meaning.specs.Table.{patternOf}
+use Rattle.meaning.specs.Basics.{_∈_, eight}
+use Rattle.meaning.specs.Graph.{Walk}
+use Rattle.meaning.specs.Listing.{listing}
 use Rattle.meaning.specs.Typing.{typeOf}
-use Rattle.path.specs.Masks.{baseIf}
+use Rattle.path.specs.Masks.{baseOf}
+use Rattle.path.specs.declared.base.Base.{Base}
+use Rattle.promises.specs.Goals.{baseIn}
 use Rattle.search.specs.Joined.{Joins, NoneBelow}
 
 -- the first word is the number of edges, and the words have room for the path and are not too many
@@ -42,27 +43,24 @@ pub record Small (rec : List ℕ) (last : ℕ) : Type 0 where
   pub node : (i : ℕ) → i ≤ last → getD rec (2 * i + 1) 0 < 256
   pub edge : (i : ℕ) → i < last → getD rec (2 * i + 2) 0 < 256
 
--- r tells whether the path keeps the base; b: it is simple
-pub record RepeatsNothing (rec : List ℕ) (last : ℕ) (b r : Bool) : Type 0 where
-  pub is : Small rec last → r ≡ unrepeated (baseIf b) (told rec last)
+-- r tells whether the path keeps the base
+pub record RepeatsNothing (rec : List ℕ) (last : ℕ) (b : Base) (r : Bool) : Type 0 where
+  pub is : Small rec last → r ≡ unrepeated (baseOf b) (told rec last)
 
 -- r tells whether the values end where the words end, and the path's end is an end of a match with them
-pub record Matches (G : Graph) (t rec : List ℕ) (last : ℕ) (r : Bool) : Type 0 where
-  pub is : r ≡ (atEnd (afterSlots eight (typeOf (patternOf t)) (skip (2 * last + 1) (drop 1 rec))) && recordEnds G eight (patternOf t) last (drop 1 rec) last)
+pub record Matches (graph plan rec : List ℕ) (last : ℕ) (r : Bool) : Type 0 where
+  pub is : r ≡ (atEnd (afterSlots eight (typeOf (patternIn plan)) (skip (2 * last + 1) (drop 1 rec))) && recordEnds (graphIn graph) eight (patternIn plan) last (drop 1 rec) last)
 
 -- r tells whether no answer of the base with fewer than n edges leads from u to v
-pub record NoneShorter (G : Graph) (t : List ℕ) (b : Bool) (n u v : ℕ) (r : Bool) : Type 0 where
-  pub yes-is : r ≡ true → NoneBelow G (baseIf b) (patternOf t) n u v
-  pub no-is : r ≡ false → (m : ℕ) × (m < n) × Joins G (baseIf b) (patternOf t) m u v
+pub record NoneShorter (graph plan : List ℕ) (n u v : ℕ) (r : Bool) : Type 0 where
+  pub yes-is : r ≡ true → NoneBelow (graphIn graph) (baseIn plan) (patternIn plan) n u v
+  pub no-is : r ≡ false → (m : ℕ) × (m < n) × Joins (graphIn graph) (baseIn plan) (patternIn plan) m u v
 
--- r is the judge's answer
-pub record Judges (image t : List ℕ) (n : ℕ) (rec : List ℕ) (r : Bool) : Type 0 where
-  pub is : r ≡ judge image t n rec
+-- r tells whether the words are a record of the listing
+pub record Judges (graph plan rec : List ℕ) (r : Bool) : Type 0 where
+  pub yes-is : r ≡ true → rec ∈ listing (graphIn graph) (restrictorIn plan) (patternIn plan)
+  pub no-is : r ≡ false → rec ∈ listing (graphIn graph) (restrictorIn plan) (patternIn plan) → ⊥
 
--- r is the judge's answer for every accepted image of the graph
-pub record JudgesIn (G : Graph) (t : List ℕ) (n : ℕ) (rec : List ℕ) (r : Bool) : Type 0 where
-  pub is : (image : List ℕ) → G ≡ graphOf image → fixedFault image t n ≡ none → r ≡ judge image t n rec
-
--- the same, if the words are the record of an answer of the pattern
-pub record JudgedAnswer (G : Graph) (t : List ℕ) (n : ℕ) (rec : List ℕ) (r : Bool) : Type 0 where
-  pub is : (image : List ℕ) → G ≡ graphOf image → fixedFault image t n ≡ none → judgeWords G eight (patternOf t) rec ≡ true → r ≡ judge image t n rec
+-- the same, if they are the record of an answer of the pattern
+pub record JudgedAnswer (graph plan rec : List ℕ) (r : Bool) : Type 0 where
+  pub is : judgeWords (graphIn graph) eight (patternIn plan) rec ≡ true → Judges graph plan rec r

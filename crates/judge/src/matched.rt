@@ -4,20 +4,12 @@ use oracle::known_slots;
 use oracle::path_ends;
 ghost use lib.ListN.{length};
 ghost use Rattle.judge.specs.Judging.{Matches};
-ghost use Rattle.plan.specs.Prepared.{Prepared};
-ghost use Rattle.compiled.specs.Parts.{tableIn};
-ghost use Rattle.compiled.specs.Words.{graphIn};
+ghost use Rattle.plan.specs.Ready.{Prepared};
 
 // The values end where the words end, and the end of the path is an end of a match with them.
-pub fn matches(
-    graph: &[u64],
-    fit: &[u64],
-    plan: &[u64],
-    rec: &[u16],
-    last: usize,
-) -> bool
-    requires { ⌜ Prepared (now graph) (tableIn (now plan)) (now fit) (now plan) (now rec) (length (now rec)) last ⌝ }
-    ensures { λ r. ⌜ Matches (graphIn (now (graph .entry))) (tableIn (now (plan .entry))) (now (rec .entry)) last r ⌝ }
+pub fn matches(graph: &[u64], fit: &[u64], plan: &[u64], rec: &[u16], last: usize) -> bool
+    requires { ⌜ Prepared (now graph) (now fit) (now plan) (now rec) (length (now rec)) last ⌝ }
+    ensures { λ r. ⌜ Matches (now (graph .entry)) (now (plan .entry)) (now (rec .entry)) last r ⌝ }
 {
     let known = rec.len();
     let row = rows(plan) - 1;

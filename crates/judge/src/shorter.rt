@@ -1,13 +1,12 @@
 // For `shortest`: whether an answer of the base joins the same nodes with fewer edges.
 use bounds::least_length;
-use walk::joined;
+use walk::joins;
 ghost use mathlib.Core.Path.{_≡_};
 ghost use Prim.Native.Nat.{_<_, _≤_};
 ghost use lib.ListN.{length};
+ghost use Rattle.compiled.specs.Words.{nodesIn};
 ghost use Rattle.judge.specs.Judging.{NoneShorter};
-ghost use Rattle.compiled.specs.Words.{graphIn, nodesIn};
-ghost use Rattle.plan.specs.Prepared.{PlanIs, Source};
-ghost use Rattle.compiled.specs.Parts.{tableIn};
+ghost use Rattle.plan.specs.Ready.{Ready};
 
 // Whether no answer with fewer than n edges leads from u to v; no match has fewer than the first asked.
 pub fn none_shorter(
@@ -15,17 +14,16 @@ pub fn none_shorter(
     plan: &[u64],
     fit: &mut [u64],
     work: &mut [u16],
-    simple: bool,
     n: usize,
     u: u16,
     v: u16,
 ) -> bool
-    requires { ⌜ Source (now graph) (tableIn (now plan)) (now plan) × PlanIs (now graph) (tableIn (now plan)) (now plan) × (401 ≤ length (now fit)) × (length (now work) ≡ 20000) × (n ≤ 200) × (u < nodesIn (now graph)) × (v < 256) ⌝ }
-    ensures { λ r. ⌜ NoneShorter (graphIn (now (graph .entry))) (tableIn (now (plan .entry))) simple n u v r ⌝ }
+    requires { ⌜ Ready (now graph) (now plan) × (401 ≤ length (now fit)) × (length (now work) ≡ 20000) × (n ≤ 200) × (u < nodesIn (now graph)) × (v < 256) ⌝ }
+    ensures { λ r. ⌜ NoneShorter (now (graph .entry)) (now (plan .entry)) n u v r ⌝ }
 {
     let mut m = least_length(plan);
     while m < n {
-        if joined(graph, plan, fit, work, simple, m, u, v) {
+        if joins(graph, plan, fit, work, m, u, v) {
             return false;
         }
         m += 1;

@@ -15,8 +15,10 @@ use Rattle.meaning.specs.Answer.{Restricted, fresh, onEdge, onNode}
 use Rattle.meaning.specs.Graph.{Walk, stop}
 use Rattle.path.proofs.Restricted.{restricted-stepped}
 use Rattle.path.proofs.Stepped.{edge-stepped, node-stepped}
+use Rattle.path.specs.declared.base.Base.{Base}
+use Rattle.path.specs.declared.base.Base.the-variants.{Simple, Trail}
 use Rattle.path.specs.declared.used.Used.{Used}
-use Rattle.path.specs.Masks.{Allowed, EdgeTested, MasksGrown, Masked, NodeTested, baseIf}
+use Rattle.path.specs.Masks.{Allowed, EdgeTested, MasksGrown, Masked, NodeTested, baseOf}
 use Rattle.path.specs.Walks.{stepped}
 
 -- below 256 the mask of one number is that number, also if it is not held
@@ -43,12 +45,12 @@ node-tested u v r e = record { is = λ q m h. e ∙ m .nodes-are v h }
 pub edge-tested : (u : Used) (e : ℕ) (r : Bool) → r ≡ setOf (u .edges .w) e → EdgeTested u e r
 edge-tested u e r i = record { is = λ q m h. i ∙ m .edges-are e h }
 
-module _ (u : Used) (b : Bool) (e v : ℕ) (r : Bool) where
-  pub allows-simple : b ≡ true → NodeTested u v r → Allowed u b e v (not r)
+module _ (u : Used) (b : Base) (e v : ℕ) (r : Bool) where
+  pub allows-simple : b ≡ Simple → NodeTested u v r → Allowed u b e v (not r)
   unfolding fresh
   allows-simple s t = record { is = λ q m h i. rw s (ap not (t .is q m i)) }
 
-  pub allows-trail : b ≡ false → EdgeTested u e r → Allowed u b e v (not r)
+  pub allows-trail : b ≡ Trail → EdgeTested u e r → Allowed u b e v (not r)
   unfolding fresh
   allows-trail s t = record { is = λ q m h i. rw s (ap not (t .is q m h)) }
 
@@ -57,19 +59,10 @@ module _ (u : Used) (q : Walk) (m : Masked q u) (e v : ℕ) where
   pub masked-stepped : (r : Used) → MasksGrown u e v r → Masked (stepped q e v) r
   masked-stepped r k = k .is q m
 
-  module _ (b r : Bool) (a : Allowed u b e v r) (he : e < 256) (hv : v < 256) where
+  module _ (b : Base) (r : Bool) (a : Allowed u b e v r) (he : e < 256) (hv : v < 256) where
     -- a step that is allowed keeps the restrictor; one that is not breaks it, and so does whatever follows
-    pub allowed-keeps : r ≡ true → Restricted (baseIf b) q → Restricted (baseIf b) (stepped q e v)
-    allowed-keeps y h = restricted-stepped (baseIf b) e v q .1 (h, sym (a .is q m he hv) ∙ y)
+    pub allowed-keeps : r ≡ true → Restricted (baseOf b) q → Restricted (baseOf b) (stepped q e v)
+    allowed-keeps y h = restricted-stepped (baseOf b) e v q .1 (h, sym (a .is q m he hv) ∙ y)
 
-    pub refused-breaks : r ≡ false → Restricted (baseIf b) (stepped q e v) → ⊥
-    refused-breaks n h = no-true (sym (restricted-stepped (baseIf b) e v q .0 h .1) ∙ (sym (a .is q m he hv) ∙ n))
-
-    -- then the edge or the node is on the path, and the classes that begin so are dead (edge-used, node-used of `search`)
-    pub refused-edge : b ≡ false → r ≡ false → onEdge e q ≡ true
-    unfolding fresh
-    refused-edge s n = not-false (onEdge e q) (rw s at (sym (a .is q m he hv) ∙ n))
-
-    pub refused-node : b ≡ true → r ≡ false → onNode v q ≡ true
-    unfolding fresh
-    refused-node s n = not-false (onNode v q) (rw s at (sym (a .is q m he hv) ∙ n))
+    pub refused-breaks : r ≡ false → Restricted (baseOf b) (stepped q e v) → ⊥
+    refused-breaks n h = no-true (sym (restricted-stepped (baseOf b) e v q .0 h .1) ∙ (sym (a .is q m he hv) ∙ n))

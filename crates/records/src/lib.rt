@@ -2,6 +2,7 @@
 // function equals one of the model, on the views that its places are of.
 mod at;
 mod factors;
+mod given;
 mod parts;
 mod pending;
 mod record;
@@ -17,6 +18,7 @@ pub use at::moved;
 pub use factors::count_fits;
 pub use factors::factor_fits;
 pub use factors::inside;
+pub use given::Given;
 pub use parts::others_frontier;
 pub use parts::others_nothing;
 pub use pending::next_word;

@@ -4,7 +4,7 @@ use Rattle.gpc.proofs.gpc_fill_page.Tie as tie
 use Rattle.gpc.proofs.gpc_fill_page.Reads as reads
 use Rattle.gpc.proofs.gpc_fill_page.Lts as lts
 use Rattle.gpc.proofs.begin.Reads as begin-reads
-use Rattle.lister.proofs.fill_page.Reads as fill-page-reads
+use Rattle.calls.proofs.fill_page.Reads as fill-page-reads
 use native.Mathlib.Omega.{arith}
 use Rattle.gpc.proofs.Answering.{on-granted, on-roomy, on-wide, page-answered, page-stopped}
 

@@ -1,4 +1,4 @@
-use Rattle.compiled.proofs.Compiling.{accepted-short, compiled-is}
+use Rattle.compiled.proofs.Compiling.{compiled-is}
 use native.Mathlib.Omega.{arith}
 use borrow.Author.Needs.{needs}
 use Rattle.compiled.proofs.fill.compile.Statement.{statement}
@@ -12,7 +12,7 @@ fill-graph-requires : tie.Need-fill-graph-requires
 fill-graph-requires c κs = search needs
 
 fill-part-requires : tie.Need-fill-part-requires
-fill-part-requires c κs = search (accepted-short, arith)
+fill-part-requires c κs = search needs
 
 same-length : tie.Need-same-length
 same-length c = search needs

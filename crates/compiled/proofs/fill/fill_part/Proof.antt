@@ -1,24 +1,28 @@
-use lib.ListN.{length-set}
-use Rattle.compiled.proofs.Compiling.{part-filled}
+-- `compiled::fill::fill_part` meets its contract. Assumes nothing.
 use native.Mathlib.Omega.{arith}
+use lib.ListN.{length-drop, length-set, length-take}
+use Rattle.compiled.proofs.Compiling.{part-filled}
 use borrow.Author.Needs.{needs}
 use Rattle.compiled.proofs.fill.fill_part.Statement.{statement}
 use Rattle.compiled.proofs.fill.fill_part.Tie as tie
-use Rattle.compiled.proofs.fill.fill_part.Reads as reads
-use Rattle.compiled.proofs.fill.fill_part.Lts as lts
-use Rattle.compiled.proofs.fill.fill_table.Reads as fill-table-reads
 
-slice-write-plan : tie.Need-slice-write-plan
-slice-write-plan c = search needs
+fill-head-requires : tie.Need-fill-head-requires
+fill-head-requires c κs = search needs
 
-slice-write-plan-2 : tie.Need-slice-write-plan-2
-slice-write-plan-2 c = simp length-set (omega arith)
+sub-fill-rows : tie.Need-sub-fill-rows
+sub-fill-rows c = search needs
 
-fill-table-requires : tie.Need-fill-table-requires
-fill-table-requires c κs = search needs
+part-fill-rows-start : tie.Need-part-fill-rows-start
+part-fill-rows-start c = search needs
+
+part-fill-rows-end : tie.Need-part-fill-rows-end
+part-fill-rows-end c = search needs
+
+fill-rows-requires : tie.Need-fill-rows-requires
+fill-rows-requires c κs = search needs
 
 same-length : tie.Need-same-length
-same-length c = omega (arith, simp length-set at (c .before .before .fill-table .ensures .put .long))
+same-length c = search needs
 
 returns : tie.Need-returns
 returns c = search (part-filled, arith)
@@ -26,4 +30,11 @@ returns c = search (part-filled, arith)
 pub fill-part-spec : {M : Type 1} → statement M
 fill-part-spec =
     tie.close
-    (tie.spec slice-write-plan slice-write-plan-2 fill-table-requires same-length returns)
+    (tie.spec
+    fill-head-requires
+    sub-fill-rows
+    part-fill-rows-start
+    part-fill-rows-end
+    fill-rows-requires
+    same-length
+    returns)

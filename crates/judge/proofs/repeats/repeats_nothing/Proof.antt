@@ -7,10 +7,10 @@ use Rattle.judge.proofs.repeats.repeats_nothing.Statement.{statement}
 use Rattle.judge.proofs.repeats.repeats_nothing.Tie as tie
 
 abbrev Inv-loop : tie.InvT-loop
-Inv-loop rec last simple used₀ i₀ used i = Unrepeated rec last simple used i
+Inv-loop rec last base used₀ i₀ used i = Unrepeated rec last base used i
 
 abbrev μ-loop : tie.MeasureT-loop
-μ-loop rec last simple used₀ i₀ used i = last - i
+μ-loop rec last base used₀ i₀ used i = last - i
 
 shared-slice-read-start : tie.Need-shared-slice-read-start Inv-loop μ-loop
 shared-slice-read-start c = search needs

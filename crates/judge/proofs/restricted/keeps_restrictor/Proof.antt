@@ -5,8 +5,14 @@ use Rattle.judge.proofs.AnswerWays.{any-length, first-node, last-node, 
 use Rattle.judge.proofs.restricted.keeps_restrictor.Statement.{statement}
 use Rattle.judge.proofs.restricted.keeps_restrictor.Tie as tie
 
+base-of-requires : tie.Need-base-of-requires
+base-of-requires c κs = search needs
+
 repeats-nothing-requires : tie.Need-repeats-nothing-requires
 repeats-nothing-requires c κs = search needs
+
+is-shortest-requires : tie.Need-is-shortest-requires
+is-shortest-requires c κs = search needs
 
 returns : tie.Need-returns
 returns c = search (any-length, arith)
@@ -27,8 +33,7 @@ shared-slice-read-none-shorter-2 : tie.Need-shared-slice-read-none-shorter-2
 shared-slice-read-none-shorter-2 c = search needs
 
 none-shorter-requires : tie.Need-none-shorter-requires
-none-shorter-requires c κs =
-    let p = c .before .before .before .before .before .before .before .before .before .before .before .before .pre in (p .2, p .3, p .4, p .5, p .0 .few, search (first-node, arith), search (last-node, arith))
+none-shorter-requires c κs = (search needs, search needs, search needs, search needs, search (first-node, arith), search (last-node, arith))
 
 same-length : tie.Need-same-length
 same-length c = search needs
@@ -46,7 +51,9 @@ pub keeps-restrictor-spec : {M : Type 1} → statement M
 keeps-restrictor-spec =
     tie.close
     (tie.spec
+    base-of-requires
     repeats-nothing-requires
+    is-shortest-requires
     returns
     mul-end
     add-end

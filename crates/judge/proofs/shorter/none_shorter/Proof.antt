@@ -3,17 +3,16 @@ use mathlib.Core.Path.{_≡_}
 use Prim.Native.Nat.{_-_}
 use lib.ListN.{length}
 use native.Mathlib.Omega.{arith}
-use Rattle.compiled.specs.Parts.{tableIn}
 use borrow.Author.Needs.{needs}
 use Rattle.judge.proofs.ShorterWays.{NoneYet, none-all, none-first, none-hit, none-more}
 use Rattle.judge.proofs.shorter.none_shorter.Statement.{statement}
 use Rattle.judge.proofs.shorter.none_shorter.Tie as tie
 
 abbrev Inv-loop : tie.InvT-loop
-Inv-loop graph plan fit₀ work₀ simple n u v m₀ fit work m = NoneYet graph (tableIn plan) simple n u v m × (length fit ≡ length fit₀) × (length work ≡ length work₀)
+Inv-loop graph plan fit₀ work₀ n u v m₀ fit work m = NoneYet graph plan n u v m × (length fit ≡ length fit₀) × (length work ≡ length work₀)
 
 abbrev μ-loop : tie.MeasureT-loop
-μ-loop graph plan fit₀ work₀ simple n u v m₀ fit work m = n - m
+μ-loop graph plan fit₀ work₀ n u v m₀ fit work m = n - m
 
 least-length-requires : tie.Need-least-length-requires Inv-loop μ-loop
 least-length-requires c κs = search needs
@@ -21,8 +20,8 @@ least-length-requires c κs = search needs
 loop-holds : tie.Need-loop-holds Inv-loop μ-loop
 loop-holds c = search (none-first, arith)
 
-joined-requires : tie.Need-joined-requires Inv-loop μ-loop
-joined-requires c κs = search needs
+joins-requires : tie.Need-joins-requires Inv-loop μ-loop
+joins-requires c κs = search needs
 
 same-length : tie.Need-same-length Inv-loop μ-loop
 same-length c = search needs
@@ -59,7 +58,7 @@ none-shorter-spec =
     μ-loop
     least-length-requires
     loop-holds
-    joined-requires
+    joins-requires
     same-length
     same-length-2
     returns

@@ -1,18 +1,18 @@
 -- `judge::judge_path` meets its contract. Assumes nothing.
 use native.Mathlib.Omega.{arith}
 use borrow.Author.Needs.{needs}
-use Rattle.judge.proofs.VerdictWays.{nodes-in, off-graph, image-checked}
+use Rattle.judge.proofs.VerdictWays.{nodes-in, off-graph}
 use Rattle.judge.proofs.verdict.judge_path.Statement.{statement}
 use Rattle.judge.proofs.verdict.judge_path.Tie as tie
 
-sections-of-requires : tie.Need-sections-of-requires
-sections-of-requires c κs = search needs
+nodes-requires : tie.Need-nodes-requires
+nodes-requires c κs = search needs
 
 nodes-within-requires : tie.Need-nodes-within-requires
 nodes-within-requires c κs = search needs
 
 judge-values-requires : tie.Need-judge-values-requires
-judge-values-requires c κs = search (nodes-in, image-checked, arith)
+judge-values-requires c κs = search (nodes-in, arith)
 
 same-length : tie.Need-same-length
 same-length c = search needs
@@ -27,7 +27,7 @@ pub judge-path-spec : {M : Type 1} → statement M
 judge-path-spec =
     tie.close
     (tie.spec
-    sections-of-requires
+    nodes-requires
     nodes-within-requires
     judge-values-requires
     same-length

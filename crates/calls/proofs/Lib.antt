@@ -1,0 +1,2 @@
+pub mod CallWays
+pub mod PageLeft
