@@ -3,8 +3,8 @@ use mathlib.Core.Path.{_≡_, refl, ap, sym, _∙_}
 use mathlib.Core.List.{List}
 use Prim.Native.Nat.{ℕ, _+_, _<_, _≤_}
 use native.Mathlib.Omega.{arith}
-use lib.ListN.{drop, getD, length, length-drop, length-set, set, take}
-use lib.Seq.{ext-getD, getD-drop, getD-set-other, getD-take, length-take-le}
+use lib.ListN.{drop, getD, length, length-drop, take}
+use lib.Seq.{ext-getD, getD-drop, getD-take, length-take-le}
 use Rattle.meaning.specs.Answer.{restrictorOf}
 use Rattle.meaning.specs.Table.{patternFault}
 use Rattle.compiled.specs.Parts.{Tabled, restrictorIn, tableIn}
@@ -36,14 +36,3 @@ module _ (p q : List ℕ) (t : Tabled p) (room : 328 ≤ length p) (long : lengt
 
   pub sound-kept : (g : List ℕ) → Sound g p → Sound g q
   sound-kept g s = record { lawful = s .lawful; tabled = tabled-kept; accepted = ap patternFault table-kept ∙ s .accepted }
-
--- one word behind them
-module _ (p : List ℕ) (t : Tabled p) (room : 328 ≤ length p) (i x : ℕ) (h : 328 ≤ i) where
-  behind : (j : ℕ) → j < 328 → getD (set p i x) j 0 ≡ getD p j 0
-  behind j l = getD-set-other p i j x 0 (λ z. omega arith)
-
-  pub table-set : tableIn (set p i x) ≡ tableIn p
-  table-set = table-kept p (set p i x) t room (length-set p i x) behind
-
-  pub sound-set : (g : List ℕ) → Sound g p → Sound g (set p i x)
-  sound-set = sound-kept p (set p i x) t room (length-set p i x) behind

@@ -3,7 +3,7 @@ use mathlib.Core.Path.{_≡_, refl, sym, _∙_}
 use mathlib.Core.List.{List}
 use mathlib.Core.Bool.{Bool, false, not, true}
 use mathlib.Core.Option.{none}
-use Prim.Native.Nat.{ℕ, _+_, _<_, _≤_, _%_, _/_}
+use Prim.Native.Nat.{ℕ, _+_, _<_, _≤_, _%_}
 use native.Mathlib.Omega.{arith}
 use lib.ListN.{drop, getD, length}
 use lib.Seq.{getD-drop, getD-take}
@@ -28,9 +28,6 @@ module _ (p : List ℕ) (t : Tabled p) (j : ℕ) (h : j < length (tableIn p)) wh
 
   pub cell-small : (w : ℕ) → w ≡ getD p (8 + j) 0 → w < 65536
   cell-small w e = rw e (t .small j (omega (arith, t .size)))
-
-pub rows-are : (p : List ℕ) → Tabled p → (w : ℕ) → w ≡ getD p 0 0 → w / 5 ≡ length (tableIn p) / 5
-rows-are p t w e = rw (t .size, e)
 
 module _ (p : List ℕ) (n : ℕ) (h : n ≡ getD p 1 0) where
   pub base-1 : n ≡ 1 → baseOf Trail ≡ restrictorIn p .base

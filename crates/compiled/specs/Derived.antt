@@ -32,7 +32,17 @@ typeIn p row x = getD p (8 * row + 391 + x) 0
 abbrev pub leavingIn : List ℕ → ℕ → List ℕ
 leavingIn p u = setAt p (226 + u)
 
--- the rows, as bits, that the node u fits; and those that the step along the edge e fits, from its first end to its second, and against it
+-- the places of the masks: of the rows, as bits, that the node u fits; that the step along the edge e fits, from its first end to its second;
+-- and that the step against it fits
+abbrev pub nodeRowsAt : ℕ → ℕ
+nodeRowsAt u = 1928 + u
+
+abbrev pub alongRowsAt : ℕ → ℕ
+alongRowsAt e = 2128 + e
+
+abbrev pub againstRowsAt : ℕ → ℕ
+againstRowsAt e = 2328 + e
+
 abbrev pub nodeRowsIn : List ℕ → ℕ → ℕ
 nodeRowsIn p u = getD p (1928 + u) 0
 
@@ -53,15 +63,9 @@ pub record Kept (p₀ p : List ℕ) : Type 0 where
   pub long : length p ≡ length p₀
   pub low : (j : ℕ) → j < 904 → getD p j 0 ≡ getD p₀ j 0
 
--- the masks of the nodes stay, or those of the steps one way
-pub record NodeRowsKept (p₀ p : List ℕ) : Type 0 where
-  pub is : (u : ℕ) → u < 200 → nodeRowsIn p u ≡ nodeRowsIn p₀ u
-
-pub record AlongRowsKept (p₀ p : List ℕ) : Type 0 where
-  pub is : (e : ℕ) → e < 200 → alongRowsIn p e ≡ alongRowsIn p₀ e
-
-pub record AgainstRowsKept (p₀ p : List ℕ) : Type 0 where
-  pub is : (e : ℕ) → e < 200 → againstRowsIn p e ≡ againstRowsIn p₀ e
+-- the masks stay: all words behind the sets
+pub record MasksKept (p₀ p : List ℕ) : Type 0 where
+  pub is : (j : ℕ) → 1928 ≤ j → getD p j 0 ≡ getD p₀ j 0
 
 -- the edges that a match can cross stay
 pub record LeavingKept (p₀ p : List ℕ) : Type 0 where
@@ -70,35 +74,13 @@ pub record LeavingKept (p₀ p : List ℕ) : Type 0 where
 -- w is put as the set of the node u
 pub record LeavingPut (u : ℕ) (w p₀ p : List ℕ) : Type 0 where
   pub kept : Kept p₀ p
-  pub nodes : NodeRowsKept p₀ p
-  pub along : AlongRowsKept p₀ p
-  pub against : AgainstRowsKept p₀ p
+  pub masks : MasksKept p₀ p
   pub here : leavingIn p u ≡ w
   pub other : (v : ℕ) → (v ≡ u → ⊥) → leavingIn p v ≡ leavingIn p₀ v
 
--- the mask x is put as that of the node u
-pub record NodeRowsPut (u x : ℕ) (p₀ p : List ℕ) : Type 0 where
+-- x is put as the mask at a place
+pub record MaskPut (at x : ℕ) (p₀ p : List ℕ) : Type 0 where
   pub kept : Kept p₀ p
   pub leaving : LeavingKept p₀ p
-  pub along : AlongRowsKept p₀ p
-  pub against : AgainstRowsKept p₀ p
-  pub here : nodeRowsIn p u ≡ x
-  pub other : (v : ℕ) → (v ≡ u → ⊥) → v < 200 → nodeRowsIn p v ≡ nodeRowsIn p₀ v
-
--- as that of the step along the edge e
-pub record AlongRowsPut (e x : ℕ) (p₀ p : List ℕ) : Type 0 where
-  pub kept : Kept p₀ p
-  pub leaving : LeavingKept p₀ p
-  pub nodes : NodeRowsKept p₀ p
-  pub against : AgainstRowsKept p₀ p
-  pub here : alongRowsIn p e ≡ x
-  pub other : (d : ℕ) → (d ≡ e → ⊥) → d < 200 → alongRowsIn p d ≡ alongRowsIn p₀ d
-
--- as that of the step against it
-pub record AgainstRowsPut (e x : ℕ) (p₀ p : List ℕ) : Type 0 where
-  pub kept : Kept p₀ p
-  pub leaving : LeavingKept p₀ p
-  pub nodes : NodeRowsKept p₀ p
-  pub along : AlongRowsKept p₀ p
-  pub here : againstRowsIn p e ≡ x
-  pub other : (d : ℕ) → (d ≡ e → ⊥) → d < 200 → againstRowsIn p d ≡ againstRowsIn p₀ d
+  pub here : getD p at 0 ≡ x
+  pub other : (j : ℕ) → (j ≡ at → ⊥) → getD p j 0 ≡ getD p₀ j 0
