@@ -1,12 +1,12 @@
 -- The bits of one word: of a shift, of each bitwise operation, and of what the code writes. Assumes nothing.
 use mathlib.Core.Path.{_≡_, refl, sym, ap, _∙_}
-use mathlib.Core.Bool.{Bool, true, false, cond, not, _&&_, _||_, true≢false}
+use mathlib.Core.Bool.{Bool, true, false, not, _&&_, _||_, true≢false}
 use Prim.Native.Nat.{ℕ, zero, suc, _+_, _-_, _*_, _/_, _%_, _^_, _<_, _≤_, min, max}
 use native.Mathlib.Nat.{pow-suc, div-eq-of-lt, mul-mod-left, mul-div-cancel, div-one, mod-lt, zero-lt-suc, zero-div, one-mul, lt-of-lt-of-le}
 use native.Mathlib.Numerals.{one-add}
 use native.Mathlib.Omega.{arith}
 use lib.Arith.{digits-mod}
-use lib.Bits.{bitAnd, bitOr, bitXor, differ, and-step, or-step, xor-step, and-shr, or-shr, xor-shr, and-mask}
+use lib.Bits.{bitAnd, bitOr, and-step, or-step, and-shr, or-shr, and-mask}
 use lib.Pow.{pow-pos, pow-mono, shr-shr, shl-exact, field, mod-mod-pow}
 use lib.Dec.{eqb, ltb, leb·suc-suc, eqb·suc-suc, eqb·suc-zero, eqb·zero-suc}
 use borrow.Author.Tests.{lt-ltb, le-ltb}
@@ -84,13 +84,6 @@ bit-and a b k =
     rw (and-shr a b k, and-step (a / 2 ^ k) (b / 2 ^ k))
     (on-digits min _&&_ (omega arith) (omega arith) (omega arith) (omega arith) refl refl refl refl
     (bitAnd (a / 2 ^ k / 2) (b / 2 ^ k / 2)) (a / 2 ^ k % 2) (b / 2 ^ k % 2) (digit (a / 2 ^ k)) (digit (b / 2 ^ k)))
-
-pub bit-xor : (a b k : ℕ) → bit (bitXor a b) k ≡ cond (bit a k) (not (bit b k)) (bit b k)
-unfolding bit
-bit-xor a b k =
-    rw (xor-shr a b k, xor-step (a / 2 ^ k) (b / 2 ^ k))
-    (on-digits differ (λ (s t : Bool). cond s (not t) t) (omega arith) (omega arith) (omega arith) (omega arith) refl refl refl refl
-    (bitXor (a / 2 ^ k / 2) (b / 2 ^ k / 2)) (a / 2 ^ k % 2) (b / 2 ^ k % 2) (digit (a / 2 ^ k)) (digit (b / 2 ^ k)))
 
 not-digit : (d : ℕ) → d < 2 → eqb (1 - d) 1 ≡ not (eqb d 1)
 not-digit zero h = refl

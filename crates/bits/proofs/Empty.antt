@@ -1,6 +1,6 @@
 -- Whether a set is empty, and whether two sets are the same. Assumes nothing.
-use mathlib.Core.Path.{_≡_, refl, sym, ap, _∙_, fun-ext}
-use mathlib.Core.Bool.{Bool, true, false, cond, not, _||_, true≢false, false≢true}
+use mathlib.Core.Path.{_≡_, refl, sym, ap, _∙_}
+use mathlib.Core.Bool.{Bool, true, false, _||_}
 use mathlib.Core.List.{List}
 use Prim.Native.Nat.{ℕ, _+_, _*_, _^_, _<_}
 use native.Mathlib.Omega.{arith}
@@ -11,7 +11,7 @@ use lib.ListN.{getD}
 use mir.Syntax.{w64}
 use mir.Val.{Fits}
 use borrow.Author.Tests.{eqb-true, eqb-false}
-use Rattle.bits.specs.Sets.{bit, setOf, none, differ, Empty, Same, Least}
+use Rattle.bits.specs.Sets.{bit, setOf, none, Empty, Least}
 use Rattle.bits.proofs.Bits.{bit-or, bit-zero}
 use Rattle.bits.proofs.Words.{set-at, set-by, each-word}
 use Rattle.bits.proofs.Search.{trailing-least, least-there}
@@ -74,23 +74,3 @@ module _ (w : List ℕ) (fits : (i : ℕ) → Fits w64 (getD w i 0)) where
   empty-by = record { yes = λ e. zeros (eqb-true all 0 e); no = λ e. some-bit (eqb-false all 0 e) }
 
 -- ---- two sets that differ in nothing
-
-equal : (s t : Bool) → cond s (not t) t ≡ false → s ≡ t
-equal true true e = refl
-equal true false e = e
-equal false true e = sym e
-equal false false e = refl
-
-unequal : (s t : Bool) → cond s (not t) t ≡ true → s ≡ t → ⊥
-unequal true true e q = false≢true e
-unequal true false e q = true≢false q
-unequal false true e q = false≢true q
-unequal false false e q = false≢true e
-
-pub same-by : (d a b : List ℕ) (r : Bool) → setOf d ≡ differ (setOf a) (setOf b) → Empty (setOf d) r → Same (setOf a) (setOf b) r
-same-by d a b r e m = record {
-  yes = λ q. fun-ext (λ j. equal (setOf a j) (setOf b j) (sym (ap (λ (S : ℕ → Bool). S j) e) ∙ ap (λ (S : ℕ → Bool). S j) (m .yes q)));
-  no = λ q.
-      let y : (j : ℕ) × (setOf d j ≡ true) = m .no q in
-      (y .0, unequal (setOf a (y .0)) (setOf b (y .0)) (sym (ap (λ (S : ℕ → Bool). S (y .0)) e) ∙ y .1));
-}

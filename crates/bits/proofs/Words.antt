@@ -1,17 +1,17 @@
 -- Four words as a set: a law for each operation of the code, over plain lists of words. Assumes nothing.
 use mathlib.Core.Path.{_≡_, refl, sym, ap, _∙_, fun-ext}
-use mathlib.Core.Bool.{Bool, false, cond, not, _&&_, _||_}
+use mathlib.Core.Bool.{Bool, false, not, _&&_, _||_}
 use mathlib.Core.List.{List, [], _∷_}
 use Prim.Native.Nat.{ℕ, zero, suc, _+_, _-_, _*_, _/_, _%_, _^_, _<_, _≤_}
 use native.Mathlib.Omega.{arith}
-use lib.Bits.{bitAnd, bitOr, bitXor}
+use lib.Bits.{bitAnd, bitOr}
 use mir.Syntax.{w64}
 use mir.Val.{Fits}
 use lib.ListN.{getD}
 use borrow.Author.Tests.{lt-ltb, le-ltb}
-use Rattle.bits.specs.Sets.{bit, member, setOf, none, unite, meet, minus, differ}
+use Rattle.bits.specs.Sets.{bit, member, setOf, none, unite, meet, minus}
 use Rattle.bits.proofs.Cases.{by-ltb}
-use Rattle.bits.proofs.Bits.{bit-or, bit-and, bit-xor, bit-not, bit-zero}
+use Rattle.bits.proofs.Bits.{bit-or, bit-and, bit-not, bit-zero}
 
 -- ---- a set's words, and its numbers past them
 
@@ -71,9 +71,6 @@ module _ (a b : List ℕ) where
 
   pub meet-words : setOf (words (λ i. bitAnd (getD a i 0) (getD b i 0))) ≡ meet (setOf a) (setOf b)
   meet-words = both-by bitAnd _&&_ refl a b (λ i t h l. bit-and (getD a i 0) (getD b i 0) t)
-
-  pub differ-words : setOf (words (λ i. bitXor (getD a i 0) (getD b i 0))) ≡ differ (setOf a) (setOf b)
-  differ-words = both-by bitXor (λ (s t : Bool). cond s (not t) t) refl a b (λ i t h l. bit-xor (getD a i 0) (getD b i 0) t)
 
   pub minus-words : ((i : ℕ) → Fits w64 (getD b i 0))
       → setOf (words (λ i. bitAnd (getD a i 0) (2 ^ 64 - 1 - getD b i 0))) ≡ minus (setOf a) (setOf b)

@@ -1,7 +1,7 @@
 -- What a mask means, as a set of numbers, and what the operations on masks give. Assumes nothing: these are definitions.
 -- A set is a test, ℕ → Bool. Laws are in proofs/.
 use mathlib.Core.Path.{_≡_}
-use mathlib.Core.Bool.{Bool, true, false, cond, not, _&&_, _||_}
+use mathlib.Core.Bool.{Bool, true, false, not, _&&_, _||_}
 use mathlib.Core.List.{List}
 use Prim.Native.Nat.{ℕ, zero, suc, _/_, _%_, _^_, _<_, _≤_, min}
 use lib.Dec.{eqb, ltb}
@@ -50,10 +50,6 @@ meet S T j = S j && T j
 abbrev pub minus : (ℕ → Bool) → (ℕ → Bool) → ℕ → Bool
 minus S T j = S j && not (T j)
 
--- the numbers in just one of the two
-abbrev pub differ : (ℕ → Bool) → (ℕ → Bool) → ℕ → Bool
-differ S T j = cond (S j) (not (T j)) (T j)
-
 -- k + 1 for each k of S, below 256
 abbrev pub up : (ℕ → Bool) → ℕ → Bool
 up S zero = false
@@ -72,8 +68,3 @@ pub record Least (S : ℕ → Bool) (end from r : ℕ) : Type 0 where
 pub record Empty (S : ℕ → Bool) (r : Bool) : Type 0 where
   pub yes : r ≡ true → S ≡ none
   pub no : r ≡ false → (j : ℕ) × (S j ≡ true)
-
--- r tells whether S and T are the same set
-pub record Same (S T : ℕ → Bool) (r : Bool) : Type 0 where
-  pub yes : r ≡ true → S ≡ T
-  pub no : r ≡ false → (j : ℕ) × (S j ≡ T j → ⊥)

@@ -7,7 +7,7 @@ pub use stored::set_at;
 ghost use mathlib.Core.Path.{_≡_};
 ghost use mathlib.Core.Bool.{cond};
 ghost use Prim.Native.Nat.{_-_};
-ghost use Rattle.bits.specs.Sets.{bit, setOf, none, only, below, unite, meet, minus, differ, up, insert, remove, Least, Empty, Same};
+ghost use Rattle.bits.specs.Sets.{bit, setOf, none, only, below, unite, meet, minus, up, insert, remove, Least, Empty};
 
 // 01: used nodes and edges as masks over u64 words. Number k is bit k % 64 of word k / 64.
 pub struct Set {
@@ -122,20 +122,6 @@ impl Set {
         }
     }
 
-    // The numbers in just one of the two sets.
-    pub fn differ(self, o: Set) -> Self
-        ensures { λ r. ⌜ setOf (r .w) ≡ differ (setOf (self .w)) (setOf (o .w)) ⌝ }
-    {
-        Set {
-            w: [
-                self.w[0] ^ o.w[0],
-                self.w[1] ^ o.w[1],
-                self.w[2] ^ o.w[2],
-                self.w[3] ^ o.w[3],
-            ],
-        }
-    }
-
     // Each member k becomes k + 1; 255 falls out.
     pub fn shift_up(self) -> Self
         ensures { λ r. ⌜ setOf (r .w) ≡ up (setOf (self .w)) ⌝ }
@@ -155,13 +141,6 @@ impl Set {
         ensures { λ r. ⌜ Empty (setOf (self .w)) r ⌝ }
     {
         self.w[0] | self.w[1] | self.w[2] | self.w[3] == 0
-    }
-
-    // Whether the two have the same numbers.
-    pub fn same(self, o: Set) -> bool
-        ensures { λ r. ⌜ Same (setOf (self .w)) (setOf (o .w)) r ⌝ }
-    {
-        self.differ(o).is_empty()
     }
 
     // The least member at or after from, or END.

@@ -7,9 +7,9 @@ use Rattle.meaning.specs.Meaning.{Meaning}
 use Rattle.table.specs.Variables.{patternAt}
 
 -- no match has more than r edges, unless r is 65535
-pub record Most (t : List ℕ) (row r : ℕ) : Type 0 where
+pub record Most (pattern : List ℕ) (row r : ℕ) : Type 0 where
   pub small : r ≤ 65535
-  pub is : r < 65535 → (G : Graph) (p : Walk) (μ : Assignment) → Meaning G (patternAt t row) p μ → len p ≤ r
+  pub is : r < 65535 → (G : Graph) (p : Walk) (μ : Assignment) → Meaning G (patternAt pattern row) p μ → len p ≤ r
 
 -- a bound of n times a, where 65535 is none
 pub record MostRepeated (n a r : ℕ) : Type 0 where
@@ -19,6 +19,6 @@ pub record MostRepeated (n a r : ℕ) : Type 0 where
   pub is : r < 65535 → n * a ≤ r
 
 -- no match has fewer than r edges
-pub record Fewest (t : List ℕ) (row r : ℕ) : Type 0 where
+pub record Fewest (pattern : List ℕ) (row r : ℕ) : Type 0 where
   pub small : r ≤ 65535
-  pub is : (G : Graph) (p : Walk) (μ : Assignment) → Meaning G (patternAt t row) p μ → r ≤ len p
+  pub is : (G : Graph) (p : Walk) (μ : Assignment) → Meaning G (patternAt pattern row) p μ → r ≤ len p

@@ -13,11 +13,11 @@ use Rattle.plan.specs.Ready.{Ready}
 use Rattle.search.specs.Sheet.{placeAll, start}
 
 -- graph and plan are ready, and their listing is that of the image, the table and the restrictor
-pub record Called (image t : List ℕ) (n : ℕ) (graph plan : List ℕ) : Type 0 where
+pub record Called (image pattern : List ℕ) (n : ℕ) (graph plan : List ℕ) : Type 0 where
   pub ready : Ready graph plan
-  pub listing-is : listing (graphIn graph) (restrictorIn plan) (patternIn plan) ≡ fullListing image t n
+  pub listing-is : listing (graphIn graph) (restrictorIn plan) (patternIn plan) ≡ fullListing image pattern n
 
 -- the records of the full listing after the bookmark are put on the page
-pub record FilledBy (image t : List ℕ) (n : ℕ) (bookmark page₀ page : List ℕ) (r : State) : Type 0 where
-  pub is : sheetOf page r ≡ placeAll (start page₀) (after bookmark (fullListing image t n))
+pub record FilledBy (image pattern : List ℕ) (n : ℕ) (bookmark page₀ page : List ℕ) (r : State) : Type 0 where
+  pub is : sheetOf page r ≡ placeAll (start page₀) (after bookmark (fullListing image pattern n))
   pub fine : Fine page r

@@ -9,11 +9,17 @@ ghost use Rattle.calls.specs.Called.{Called};
 ghost use Rattle.compiled.specs.Derived.{graphWords, planWords};
 ghost use Rattle.meaning.specs.FullListing.{fixedFault};
 
-pub fn compile_call(image: &[u8], pat: &[u16], restrictor: u64, graph: &mut [u64], plan: &mut [u64])
-    requires { ⌜ (fixedFault (now image) (now pat) restrictor ≡ none) × (length (now graph) ≡ graphWords) × (length (now plan) ≡ planWords) ⌝ }
-    ensures { λ _. ⌜ Called (now (image .entry)) (now (pat .entry)) restrictor (now (graph .exit)) (now (plan .exit)) ⌝ }
+pub fn compile_call(
+    image: &[u8],
+    pattern: &[u16],
+    restrictor: u64,
+    graph: &mut [u64],
+    plan: &mut [u64],
+)
+    requires { ⌜ (fixedFault (now image) (now pattern) restrictor ≡ none) × (length (now graph) ≡ graphWords) × (length (now plan) ≡ planWords) ⌝ }
+    ensures { λ _. ⌜ Called (now (image .entry)) (now (pattern .entry)) restrictor (now (graph .exit)) (now (plan .exit)) ⌝ }
 {
     let s = sections_of(image);
-    compile(image, s, pat, restrictor, graph, plan);
+    compile(image, s, pattern, restrictor, graph, plan);
     fill_plan(graph, plan);
 }

@@ -12,7 +12,7 @@ use borrow.Author.Tests.{eq-eqb, ne-eqb, eqb-true, eqb-false, ltb-true, ltb-fals
 use Rattle.meaning.specs.Image.{someRow}
 use Rattle.meaning.specs.Basics.{if_then_else_}
 use Rattle.meaning.specs.Graph.{Element}
-use Rattle.meaning.proofs.Logic.{and-both, and-l, and-r, is-false, no-true, or-l, or-r}
+use Rattle.meaning.proofs.Logic.{and-both, and-l, and-r, is-false, or-l, or-r}
 use Rattle.compiled.specs.Words.{graphIn, isBelow, labelsIn, names, numberIn, pairOf, propertiesIn, someNames, valueIn, valueOf}
 use Rattle.compiled.specs.Sound.{Lawful, LowerBound, Rises}
 

@@ -12,7 +12,7 @@ use lib.Dec.{eqb}
 use Rattle.meaning.specs.Answer.{Restrictor, restrictorOf, simple, trail}
 use Rattle.meaning.proofs.Causes.{first-none, whole-none}
 use Rattle.meaning.proofs.Logic.{or-false-r}
-use Rattle.meaning.specs.Basics.{if_then_else_, whole}
+use Rattle.meaning.specs.Basics.{if_then_else_, rowless}
 use Rattle.meaning.specs.Table.{badLength, patternFault, rowsOf, tableFault}
 use Rattle.path.specs.Masks.{baseOf}
 use Rattle.path.specs.declared.base.Base.the-variants.{Simple, Trail}
@@ -62,8 +62,8 @@ module _ (p : List ℕ) (n : ℕ) (h : n ≡ getD p 1 0) where
       go true = refl
       go false = refl
 
-pub accepted-short : (t : List ℕ) → patternFault t ≡ none → length t ≤ 320
+pub accepted-short : (pattern : List ℕ) → patternFault pattern ≡ none → length pattern ≤ 320
 unfolding patternFault badLength
-accepted-short t e =
-    let b = whole-none 11 (badLength t) (first-none (whole 11 (badLength t)) (tableFault (rowsOf t)) e .0) in
-    ltb-false 320 (length t) (or-false-r (eqb (length t) 0) _ (or-false-r (not (eqb (length t % 5) 0)) _ b))
+accepted-short pattern e =
+    let b = whole-none 11 (badLength pattern) (first-none (rowless 11 (badLength pattern)) (tableFault (rowsOf pattern)) e .0) in
+    ltb-false 320 (length pattern) (or-false-r (eqb (length pattern) 0) _ (or-false-r (not (eqb (length pattern % 5) 0)) _ b))

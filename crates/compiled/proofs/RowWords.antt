@@ -17,11 +17,11 @@ use Rattle.compiled.specs.Derived.{planWords}
 use Rattle.compiled.proofs.Parts.{accepted-short}
 
 -- ------------------------------------------------------------------ the words
-module _ (t : List ℕ) (e : patternFault t ≡ none) where
+module _ (pattern : List ℕ) (e : patternFault pattern ≡ none) where
   module _ (plan₀ plan types : List ℕ) (room : 576 ≤ length plan₀) (long : length plan ≡ length plan₀)
-      (plan-is : plan ≡ listOf (variablesAt t) (length t / 5) ++ drop (length t / 5) plan₀) where
+      (plan-is : plan ≡ listOf (variablesAt pattern) (length pattern / 5) ++ drop (length pattern / 5) plan₀) where
     rest : List ℕ
-    rest = drop (8 * (length t / 5)) (take (length plan - 64) (drop 64 plan))
+    rest = drop (8 * (length pattern / 5)) (take (length plan - 64) (drop 64 plan))
 
     post : List ℕ
     post = drop (length plan - 64) (drop 64 plan)
@@ -29,43 +29,37 @@ module _ (t : List ℕ) (e : patternFault t ≡ none) where
     front : length (take 64 plan) ≡ 64
     front = length-take-le 64 plan (omega arith)
 
-    module _ (types-long : length types ≡ length (take (length plan - 64) (drop 64 plan))) (types-are : types ≡ listOf (typeAt t) (8 * (length t / 5)) ++ rest) where
+    module _ (types-long : length types ≡ length (take (length plan - 64) (drop 64 plan))) (types-are : types ≡ listOf (typeAt pattern) (8 * (length pattern / 5)) ++ rest) where
       filled : List ℕ
       filled = take 64 plan ++ (types ++ post)
 
-      filled-room : 576 ≤ length filled
-      unfolding filled
-      filled-room =
-          let d = length-drop 64 plan in
-          omega (arith, front, length-take-le (length plan - 64) (drop 64 plan) (omega arith), length-append (take 64 plan) (types ++ post), length-append types post)
-
-      module _ (i : ℕ) (inside : i * 5 + 5 ≤ length t) where
-        variables-at : getD filled i 0 ≡ maskOf (patternAt t i) eight
+      module _ (i : ℕ) (inside : i * 5 + 5 ≤ length pattern) where
+        variables-at : getD filled i 0 ≡ maskOf (patternAt pattern i) eight
         unfolding filled variablesAt
         variables-at =
-            let s = accepted-short t e in
+            let s = accepted-short pattern e in
             List·getD-append (take 64 plan) (types ++ post) 0 i (omega (arith, front))
             ∙ getD-take 64 plan i 0 (omega arith)
             ∙ ap (λ (l : List ℕ). getD l i 0) plan-is
-            ∙ list-at (variablesAt t) (length t / 5) i (drop (length t / 5) plan₀) (omega arith)
+            ∙ list-at (variablesAt pattern) (length pattern / 5) i (drop (length pattern / 5) plan₀) (omega arith)
 
-        types-at : (x : ℕ) → 1 ≤ x → x < 9 → getD filled (8 * i + 63 + x) 0 ≡ codeOf (typeOf (patternAt t i) x)
+        types-at : (x : ℕ) → 1 ≤ x → x < 9 → getD filled (8 * i + 63 + x) 0 ≡ codeOf (typeOf (patternAt pattern i) x)
         unfolding filled
         types-at x a b =
             let k : 8 * i + 63 + x ≡ length (take 64 plan) + (8 * i + (x - 1)) = omega (arith, front) in
             ap (λ (n : ℕ). getD (take 64 plan ++ (types ++ post)) n 0) k
             ∙ getD-append-add (take 64 plan) (types ++ post) (8 * i + (x - 1)) 0
             ∙ ap (λ (l : List ℕ). getD (l ++ post) (8 * i + (x - 1)) 0) types-are
-            ∙ ap (λ (l : List ℕ). getD l (8 * i + (x - 1)) 0) (append-assoc (listOf (typeAt t) (8 * (length t / 5))) rest post)
-            ∙ list-at (typeAt t) (8 * (length t / 5)) (8 * i + (x - 1)) (rest ++ post) (omega arith)
-            ∙ type-stands t i x a b
+            ∙ ap (λ (l : List ℕ). getD l (8 * i + (x - 1)) 0) (append-assoc (listOf (typeAt pattern) (8 * (length pattern / 5))) rest post)
+            ∙ list-at (typeAt pattern) (8 * (length pattern / 5)) (8 * i + (x - 1)) (rest ++ post) (omega arith)
+            ∙ type-stands pattern i x a b
 
-      filled-plan : RowsFilled t filled
+      filled-plan : RowsFilled pattern filled
       filled-plan = record { variables = variables-at; types = types-at }
 
-  pub plan-filled : (plan₀ plan types : List ℕ) → 576 ≤ length plan₀ → length plan ≡ length plan₀ → plan ≡ listOf (variablesAt t) (length t / 5) ++ drop (length t / 5) plan₀
-      → length types ≡ length (take (length plan - 64) (drop 64 plan)) → types ≡ listOf (typeAt t) (8 * (length t / 5)) ++ drop (8 * (length t / 5)) (take (length plan - 64) (drop 64 plan))
-      → RowsFilled t (take 64 plan ++ (types ++ drop (length plan - 64) (drop 64 plan)))
+  pub plan-filled : (plan₀ plan types : List ℕ) → 576 ≤ length plan₀ → length plan ≡ length plan₀ → plan ≡ listOf (variablesAt pattern) (length pattern / 5) ++ drop (length pattern / 5) plan₀
+      → length types ≡ length (take (length plan - 64) (drop 64 plan)) → types ≡ listOf (typeAt pattern) (8 * (length pattern / 5)) ++ drop (8 * (length pattern / 5)) (take (length plan - 64) (drop 64 plan))
+      → RowsFilled pattern (take 64 plan ++ (types ++ drop (length plan - 64) (drop 64 plan)))
   unfolding rest post filled
   plan-filled = filled-plan
 

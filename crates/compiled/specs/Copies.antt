@@ -15,20 +15,20 @@ use Rattle.compiled.specs.Parts.{Tabled, restrictorIn, tableIn}
 use Rattle.compiled.specs.Sound.{Lawful, Sound}
 
 -- the word is row i of its section
-pub record EdgeWord (b : List ℕ) (i w : ℕ) : Type 0 where
-  pub is : edgeOf w ≡ edgeRow b i
+pub record EdgeWord (image : List ℕ) (i w : ℕ) : Type 0 where
+  pub is : edgeOf w ≡ edgeRow image i
 
-pub record LabelWord (b : List ℕ) (i w : ℕ) : Type 0 where
-  pub owner : pairOf w / 65536 ≡ labelCell b i 0
-  pub name : pairOf w % 65536 ≡ labelCell b i 1
+pub record LabelWord (image : List ℕ) (i w : ℕ) : Type 0 where
+  pub owner : pairOf w / 65536 ≡ labelCell image i 0
+  pub name : pairOf w % 65536 ≡ labelCell image i 1
 
-pub record PropertyWord (b : List ℕ) (i w : ℕ) : Type 0 where
-  pub owner : pairOf w / 65536 ≡ propertyCell b i 0
-  pub name : pairOf w % 65536 ≡ propertyCell b i 1
-  pub value : valueIn w ≡ propertyCell b i 2
+pub record PropertyWord (image : List ℕ) (i w : ℕ) : Type 0 where
+  pub owner : pairOf w / 65536 ≡ propertyCell image i 0
+  pub name : pairOf w % 65536 ≡ propertyCell image i 1
+  pub value : valueIn w ≡ propertyCell image i 2
 
-pub record TableWord (t : List ℕ) (i w : ℕ) : Type 0 where
-  pub is : w ≡ getD t i 0
+pub record TableWord (pattern : List ℕ) (i w : ℕ) : Type 0 where
+  pub is : w ≡ getD pattern i 0
   pub small : w < 65536
 
 -- the n words from `at` on are such, and the others as they were
@@ -40,41 +40,41 @@ pub record Put (at : ℕ) (P : ℕ → ℕ → Type 0) (n : ℕ) (g₀ g : List 
 
 -- ------------------------------------------------------------------ contracts
 -- the words of the first n rows of each section, and of the table
-pub record EdgesPut (b : List ℕ) (n : ℕ) (g₀ g : List ℕ) : Type 0 where
-  pub put : Put 8 (EdgeWord b) n g₀ g
+pub record EdgesPut (image : List ℕ) (n : ℕ) (g₀ g : List ℕ) : Type 0 where
+  pub put : Put 8 (EdgeWord image) n g₀ g
 
-pub record LabelsPut (b : List ℕ) (n : ℕ) (g₀ g : List ℕ) : Type 0 where
-  pub put : Put 208 (LabelWord b) n g₀ g
+pub record LabelsPut (image : List ℕ) (n : ℕ) (g₀ g : List ℕ) : Type 0 where
+  pub put : Put 208 (LabelWord image) n g₀ g
 
-pub record PropertiesPut (b : List ℕ) (n : ℕ) (g₀ g : List ℕ) : Type 0 where
-  pub put : Put 1008 (PropertyWord b) n g₀ g
+pub record PropertiesPut (image : List ℕ) (n : ℕ) (g₀ g : List ℕ) : Type 0 where
+  pub put : Put 1008 (PropertyWord image) n g₀ g
 
-pub record TablePut (t : List ℕ) (n : ℕ) (p₀ p : List ℕ) : Type 0 where
-  pub put : Put 8 (TableWord t) n p₀ p
+pub record TablePut (pattern : List ℕ) (n : ℕ) (p₀ p : List ℕ) : Type 0 where
+  pub put : Put 8 (TableWord pattern) n p₀ p
 
-pub record GraphFilled (b g : List ℕ) : Type 0 where
+pub record GraphFilled (image g : List ℕ) : Type 0 where
   pub lawful : Lawful g
-  pub is : graphIn g ≡ graphOf b
+  pub is : graphIn g ≡ graphOf image
 
 -- the variables and the types of each row, in words of their own
-pub record RowsFilled (t words : List ℕ) : Type 0 where
-  pub variables : (i : ℕ) → i * 5 + 5 ≤ length t → getD words i 0 ≡ maskOf (patternAt t i) eight
-  pub types : (i : ℕ) → i * 5 + 5 ≤ length t → (x : ℕ) → 1 ≤ x → x < 9 → getD words (8 * i + 63 + x) 0 ≡ codeOf (typeOf (patternAt t i) x)
+pub record RowsFilled (pattern words : List ℕ) : Type 0 where
+  pub variables : (i : ℕ) → i * 5 + 5 ≤ length pattern → getD words i 0 ≡ maskOf (patternAt pattern i) eight
+  pub types : (i : ℕ) → i * 5 + 5 ≤ length pattern → (x : ℕ) → 1 ≤ x → x < 9 → getD words (8 * i + 63 + x) 0 ≡ codeOf (typeOf (patternAt pattern i) x)
 
-pub record HeadFilled (t : List ℕ) (restrictor : ℕ) (p : List ℕ) : Type 0 where
+pub record HeadFilled (pattern : List ℕ) (restrictor : ℕ) (p : List ℕ) : Type 0 where
   pub tabled : Tabled p
-  pub is : tableIn p ≡ t
+  pub is : tableIn p ≡ pattern
   pub restrictor-is : restrictorIn p ≡ restrictorOf restrictor
 
-pub record PartFilled (t : List ℕ) (restrictor : ℕ) (p : List ℕ) : Type 0 where
+pub record PartFilled (pattern : List ℕ) (restrictor : ℕ) (p : List ℕ) : Type 0 where
   pub tabled : Tabled p
   pub rows : RowsAre p
-  pub is : tableIn p ≡ t
+  pub is : tableIn p ≡ pattern
   pub restrictor-is : restrictorIn p ≡ restrictorOf restrictor
 
-pub record Compiled (b t : List ℕ) (restrictor : ℕ) (g p : List ℕ) : Type 0 where
+pub record Compiled (image pattern : List ℕ) (restrictor : ℕ) (g p : List ℕ) : Type 0 where
   pub sound : Sound g p
   pub rows : RowsAre p
-  pub graph-is : graphIn g ≡ graphOf b
-  pub table-is : tableIn p ≡ t
+  pub graph-is : graphIn g ≡ graphOf image
+  pub table-is : tableIn p ≡ pattern
   pub restrictor-is : restrictorIn p ≡ restrictorOf restrictor

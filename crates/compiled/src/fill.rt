@@ -72,58 +72,58 @@ fn fill_graph(image: &[u8], s: Sections, graph: &mut [u64])
 }
 
 // The words of a table, each in a word of the plan.
-fn fill_table(pat: &[u16], plan: &mut [u64])
-    requires { ⌜ (length (now pat) ≤ 320) × (328 ≤ length (now plan)) ⌝ }
-    ensures { λ _. ⌜ TablePut (now (pat .entry)) (length (now (pat .entry))) (now (plan .entry)) (now (plan .exit)) ⌝ }
+fn fill_table(pattern: &[u16], plan: &mut [u64])
+    requires { ⌜ (length (now pattern) ≤ 320) × (328 ≤ length (now plan)) ⌝ }
+    ensures { λ _. ⌜ TablePut (now (pattern .entry)) (length (now (pattern .entry))) (now (plan .entry)) (now (plan .exit)) ⌝ }
 {
     let mut i: usize = 0;
-    while i < pat.len() {
-        let w = long(pat[i]);
+    while i < pattern.len() {
+        let w = long(pattern[i]);
         plan[TABLE + i] = w;
         i += 1;
     }
 }
 
 // The table and the restrictor of a part.
-fn fill_head(pat: &[u16], restrictor: u64, plan: &mut [u64])
-    requires { ⌜ (patternFault (now pat) ≡ none) × (length (now plan) ≡ planWords) ⌝ }
-    ensures { λ _. ⌜ HeadFilled (now (pat .entry)) restrictor (now (plan .exit)) ⌝ }
+fn fill_head(pattern: &[u16], restrictor: u64, plan: &mut [u64])
+    requires { ⌜ (patternFault (now pattern) ≡ none) × (length (now plan) ≡ planWords) ⌝ }
+    ensures { λ _. ⌜ HeadFilled (now (pattern .entry)) restrictor (now (plan .exit)) ⌝ }
 {
-    plan[0] = pat.len() as u64;
+    plan[0] = pattern.len() as u64;
     plan[1] = restrictor;
-    fill_table(pat, plan);
+    fill_table(pattern, plan);
 }
 
 // The variables and the types of every row.
-fn fill_rows(pat: &[u16], words: &mut [u64])
-    requires { ⌜ (patternFault (now pat) ≡ none) × (576 ≤ length (now words)) ⌝ }
-    ensures { λ _. ⌜ RowsFilled (now (pat .entry)) (now (words .exit)) ⌝ }
+fn fill_rows(pattern: &[u16], words: &mut [u64])
+    requires { ⌜ (patternFault (now pattern) ≡ none) × (576 ≤ length (now words)) ⌝ }
+    ensures { λ _. ⌜ RowsFilled (now (pattern .entry)) (now (words .exit)) ⌝ }
 {
-    fill_variables(pat, words);
-    fill_types(pat, &mut words[TYPES..]);
+    fill_variables(pattern, words);
+    fill_types(pattern, &mut words[TYPES..]);
 }
 
 // The part: table, restrictor, and what the table says of its rows.
-fn fill_part(pat: &[u16], restrictor: u64, plan: &mut [u64])
-    requires { ⌜ (patternFault (now pat) ≡ none) × (length (now plan) ≡ planWords) ⌝ }
-    ensures { λ _. ⌜ PartFilled (now (pat .entry)) restrictor (now (plan .exit)) ⌝ }
+fn fill_part(pattern: &[u16], restrictor: u64, plan: &mut [u64])
+    requires { ⌜ (patternFault (now pattern) ≡ none) × (length (now plan) ≡ planWords) ⌝ }
+    ensures { λ _. ⌜ PartFilled (now (pattern .entry)) restrictor (now (plan .exit)) ⌝ }
 {
-    fill_head(pat, restrictor, plan);
-    fill_rows(pat, &mut plan[ROWS..]);
+    fill_head(pattern, restrictor, plan);
+    fill_rows(pattern, &mut plan[ROWS..]);
 }
 
 // All that a call reads.
 pub fn compile(
     image: &[u8],
     s: Sections,
-    pat: &[u16],
+    pattern: &[u16],
     restrictor: u64,
     graph: &mut [u64],
     plan: &mut [u64],
 )
-    requires { ⌜ Checked (now image) s × (patternFault (now pat) ≡ none) × (length (now graph) ≡ graphWords) × (length (now plan) ≡ planWords) ⌝ }
-    ensures { λ _. ⌜ Compiled (now (image .entry)) (now (pat .entry)) restrictor (now (graph .exit)) (now (plan .exit)) ⌝ }
+    requires { ⌜ Checked (now image) s × (patternFault (now pattern) ≡ none) × (length (now graph) ≡ graphWords) × (length (now plan) ≡ planWords) ⌝ }
+    ensures { λ _. ⌜ Compiled (now (image .entry)) (now (pattern .entry)) restrictor (now (graph .exit)) (now (plan .exit)) ⌝ }
 {
     fill_graph(image, s, graph);
-    fill_part(pat, restrictor, plan);
+    fill_part(pattern, restrictor, plan);
 }

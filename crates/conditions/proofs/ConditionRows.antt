@@ -6,7 +6,7 @@ use Prim.Native.Nat.{ℕ, _<_, _≤_}
 use native.Mathlib.Omega.{arith}
 use lib.Dec.{eqb, leb, ltb}
 use borrow.Author.Tests.{leb-true}
-use Rattle.meaning.specs.Table.{Form, Item, asCondition, condition, conditionForm, conditionRow, fine, form, formAt, isAnd, isBad, isConcatenation, isConditioned, isConstant, isEdge, isNode, isNot, isOr, isProperty, isRepetition, isUnion, isVariable, itemAt, make, nil, pattern, rowsOf, unused}
+use Rattle.meaning.specs.Table.{Form, Item, asCondition, conditionItem, conditionForm, conditionRow, fine, form, formAt, isAnd, isBad, isConcatenation, isConditioned, isConstant, isEdge, isNode, isNot, isOr, isProperty, isRepetition, isUnion, isVariable, itemAt, make, noItem, patternItem, rowsOf, ifZero}
 use Rattle.meaning.specs.Table.{Row as RowOf}
 use Rattle.meaning.specs.Pattern.{Condition}
 use Rattle.meaning.proofs.Logic.{and-l, and-r, no-false}
@@ -19,7 +19,7 @@ use Rattle.rows.proofs.Misuse.{fine-condition, form-read}
 use Rattle.rows.proofs.Rows.{in-rows}
 
 -- ------------------------------------------------------------------ items that are conditions
-made-condition : (g : ℕ → Item) (f : Form) → conditionForm f ≡ true → make g f ≡ condition (asCondition (make g f))
+made-condition : (g : ℕ → Item) (f : Form) → conditionForm f ≡ true → make g f ≡ conditionItem (asCondition (make g f))
 unfolding conditionForm make asCondition
 made-condition g (isNode x l) e = no-false e
 made-condition g (isEdge d x l) e = no-false e
@@ -35,9 +35,9 @@ made-condition g (isNot p) e = refl
 made-condition g isBad e = no-false e
 
 isCondition : Item → Bool
-isCondition (pattern π) = false
-isCondition (condition θ) = true
-isCondition nil = false
+isCondition (patternItem π) = false
+isCondition (conditionItem θ) = true
+isCondition noItem = false
 
 made-by : (g : ℕ → Item) (f : Form) → isCondition (make g f) ≡ conditionForm f
 unfolding conditionForm make isCondition
@@ -55,10 +55,10 @@ made-by g (isNot p) = refl
 made-by g isBad = refl
 
 module _ (t : List RowOf) (i : ℕ) (e : fine t i (formAt t i) ≡ true) where
-  pub condition-item : conditionForm (formAt t i) ≡ true → itemAt t i ≡ condition (asCondition (itemAt t i))
-  condition-item c = item-is t i e ∙ made-condition (itemAt t) (formAt t i) c ∙ ap (λ (x : Item). condition (asCondition x)) (sym (item-is t i e))
+  pub condition-item : conditionForm (formAt t i) ≡ true → itemAt t i ≡ conditionItem (asCondition (itemAt t i))
+  condition-item c = item-is t i e ∙ made-condition (itemAt t) (formAt t i) c ∙ ap (λ (x : Item). conditionItem (asCondition x)) (sym (item-is t i e))
 
-  pub item-condition : (θ : Condition) → itemAt t i ≡ condition θ → conditionForm (formAt t i) ≡ true
+  pub item-condition : (θ : Condition) → itemAt t i ≡ conditionItem θ → conditionForm (formAt t i) ≡ true
   unfolding isCondition
   item-condition θ h = sym (made-by (itemAt t) (formAt t i)) ∙ ap isCondition (sym (item-is t i e) ∙ h)
 
@@ -71,26 +71,26 @@ variable-in x e =
     (a, omega arith)
 
 -- a lower row that is a condition
-module _ (t : List ℕ) (row i : ℕ) (st : Stands t row) (c : conditionRow (rowsOf t) row i ≡ true) where
+module _ (pattern : List ℕ) (row i : ℕ) (st : Stands pattern row) (c : conditionRow (rowsOf pattern) row i ≡ true) where
   pub lower-falls : (m : ℕ) → row ≡ m → i < m
-  lower-falls m e = omega (arith, condition-below (rowsOf t) row i c)
+  lower-falls m e = omega (arith, condition-below (rowsOf pattern) row i c)
 
-  pub lower-stands : Stands t i
-  lower-stands = record { room = omega (arith, st .room, condition-below (rowsOf t) row i c); formed = st .formed }
+  pub lower-stands : Stands pattern i
+  lower-stands = record { room = omega (arith, st .room, condition-below (rowsOf pattern) row i c); formed = st .formed }
 
-  pub lower-item : itemAt (rowsOf t) i ≡ condition (asCondition (itemAt (rowsOf t) i))
+  pub lower-item : itemAt (rowsOf pattern) i ≡ conditionItem (asCondition (itemAt (rowsOf pattern) i))
   unfolding conditionRow
-  lower-item = condition-item (rowsOf t) i (st .formed .ok i (in-rows t i (lower-stands .room))) (and-r (ltb i row) (conditionForm (formAt (rowsOf t) i)) c)
+  lower-item = condition-item (rowsOf pattern) i (st .formed .ok i (in-rows pattern i (lower-stands .room))) (and-r (ltb i row) (conditionForm (formAt (rowsOf pattern) i)) c)
 
-module _ (t : List ℕ) (row : ℕ) (r : Row) (d : Reads t row r) (st : Stands t row) where
-  ok : fine (rowsOf t) row (formAt (rowsOf t) row) ≡ true
-  ok = st .formed .ok row (in-rows t row (st .room))
+module _ (pattern : List ℕ) (row : ℕ) (r : Row) (d : Reads pattern row r) (st : Stands pattern row) where
+  ok : fine (rowsOf pattern) row (formAt (rowsOf pattern) row) ≡ true
+  ok = st .formed .ok row (in-rows pattern row (st .room))
 
-  by-kind : (k : ℕ) → r .kind ≡ k → (b : Bool) (g : Form) → form (five k (r .p) (r .q) (r .r) (r .s)) ≡ unused b g → fine (rowsOf t) row g ≡ true
+  by-kind : (k : ℕ) → r .kind ≡ k → (b : Bool) (g : Form) → form (five k (r .p) (r .q) (r .r) (r .s)) ≡ ifZero b g → fine (rowsOf pattern) row g ≡ true
   by-kind k e b g q =
-      let h : formAt (rowsOf t) row ≡ unused b g = form-read t row r d ∙ ap (λ (n : ℕ). form (five n (r .p) (r .q) (r .r) (r .s))) e ∙ q in
-      let o : fine (rowsOf t) row (unused b g) ≡ true = ap (fine (rowsOf t) row) (sym h) ∙ ok in
-      ap (fine (rowsOf t) row) (sym (used (rowsOf t) row b g o)) ∙ o
+      let h : formAt (rowsOf pattern) row ≡ ifZero b g = form-read pattern row r d ∙ ap (λ (n : ℕ). form (five n (r .p) (r .q) (r .r) (r .s))) e ∙ q in
+      let o : fine (rowsOf pattern) row (ifZero b g) ≡ true = ap (fine (rowsOf pattern) row) (sym h) ∙ ok in
+      ap (fine (rowsOf pattern) row) (sym (used (rowsOf pattern) row b g o)) ∙ o
 
   -- the variables of an equality
   pub constant-variable : r .kind ≡ 16 → (1 ≤ r .p) × (r .p < 9)
@@ -98,7 +98,7 @@ module _ (t : List ℕ) (row : ℕ) (r : Row) (d : Reads t row r) (st : Stands t
   constant-variable e = variable-in (r .p) (by-kind 16 e (eqb (r .s) 0) (isConstant (r .p) (r .q) (r .r)) refl)
 
   both-variables : r .kind ≡ 17 → (isVariable (r .p) && isVariable (r .r)) ≡ true
-  unfolding form fine unused
+  unfolding form fine ifZero
   both-variables e = by-kind 17 e true (isProperty (r .p) (r .q) (r .r) (r .s)) refl
 
   pub first-variable : r .kind ≡ 17 → (1 ≤ r .p) × (r .p < 9)
@@ -117,33 +117,33 @@ module _ (t : List ℕ) (row : ℕ) (r : Row) (d : Reads t row r) (st : Stands t
   second-slot e = second-variable e .1
 
   -- the rows that a connective names
-  and-rows : r .kind ≡ 18 → (conditionRow (rowsOf t) row (r .p) && conditionRow (rowsOf t) row (r .q)) ≡ true
+  and-rows : r .kind ≡ 18 → (conditionRow (rowsOf pattern) row (r .p) && conditionRow (rowsOf pattern) row (r .q)) ≡ true
   unfolding form fine
   and-rows e = by-kind 18 e (eqb (r .r) 0 && eqb (r .s) 0) (isAnd (r .p) (r .q)) refl
 
-  or-rows : r .kind ≡ 19 → (conditionRow (rowsOf t) row (r .p) && conditionRow (rowsOf t) row (r .q)) ≡ true
+  or-rows : r .kind ≡ 19 → (conditionRow (rowsOf pattern) row (r .p) && conditionRow (rowsOf pattern) row (r .q)) ≡ true
   unfolding form fine
   or-rows e = by-kind 19 e (eqb (r .r) 0 && eqb (r .s) 0) (isOr (r .p) (r .q)) refl
 
-  pub and-first : r .kind ≡ 18 → conditionRow (rowsOf t) row (r .p) ≡ true
-  and-first e = and-l (conditionRow (rowsOf t) row (r .p)) (conditionRow (rowsOf t) row (r .q)) (and-rows e)
+  pub and-first : r .kind ≡ 18 → conditionRow (rowsOf pattern) row (r .p) ≡ true
+  and-first e = and-l (conditionRow (rowsOf pattern) row (r .p)) (conditionRow (rowsOf pattern) row (r .q)) (and-rows e)
 
-  pub and-second : r .kind ≡ 18 → conditionRow (rowsOf t) row (r .q) ≡ true
-  and-second e = and-r (conditionRow (rowsOf t) row (r .p)) (conditionRow (rowsOf t) row (r .q)) (and-rows e)
+  pub and-second : r .kind ≡ 18 → conditionRow (rowsOf pattern) row (r .q) ≡ true
+  and-second e = and-r (conditionRow (rowsOf pattern) row (r .p)) (conditionRow (rowsOf pattern) row (r .q)) (and-rows e)
 
-  pub or-first : r .kind ≡ 19 → conditionRow (rowsOf t) row (r .p) ≡ true
-  or-first e = and-l (conditionRow (rowsOf t) row (r .p)) (conditionRow (rowsOf t) row (r .q)) (or-rows e)
+  pub or-first : r .kind ≡ 19 → conditionRow (rowsOf pattern) row (r .p) ≡ true
+  or-first e = and-l (conditionRow (rowsOf pattern) row (r .p)) (conditionRow (rowsOf pattern) row (r .q)) (or-rows e)
 
-  pub or-second : r .kind ≡ 19 → conditionRow (rowsOf t) row (r .q) ≡ true
-  or-second e = and-r (conditionRow (rowsOf t) row (r .p)) (conditionRow (rowsOf t) row (r .q)) (or-rows e)
+  pub or-second : r .kind ≡ 19 → conditionRow (rowsOf pattern) row (r .q) ≡ true
+  or-second e = and-r (conditionRow (rowsOf pattern) row (r .p)) (conditionRow (rowsOf pattern) row (r .q)) (or-rows e)
 
-  pub not-row : r .kind ≡ 20 → conditionRow (rowsOf t) row (r .p) ≡ true
+  pub not-row : r .kind ≡ 20 → conditionRow (rowsOf pattern) row (r .p) ≡ true
   unfolding form fine
   not-row e = by-kind 20 e (eqb (r .q) 0 && (eqb (r .r) 0 && eqb (r .s) 0)) (isNot (r .p)) refl
 
   -- a row that is a condition has a kind from 16 to 20
-  pub condition-kind : (θ : Condition) → itemAt (rowsOf t) row ≡ condition θ → (16 ≤ r .kind) × (r .kind ≤ 20)
+  pub condition-kind : (θ : Condition) → itemAt (rowsOf pattern) row ≡ conditionItem θ → (16 ≤ r .kind) × (r .kind ≤ 20)
   unfolding conditionKind
   condition-kind θ h =
-      let e : conditionKind (r .kind) ≡ true = sym (fine-condition t row r d ok) ∙ item-condition (rowsOf t) row ok θ h in
+      let e : conditionKind (r .kind) ≡ true = sym (fine-condition pattern row r d ok) ∙ item-condition (rowsOf pattern) row ok θ h in
       (leb-true 16 (r .kind) (and-l (leb 16 (r .kind)) (leb (r .kind) 20) e), leb-true (r .kind) 20 (and-r (leb 16 (r .kind)) (leb (r .kind) 20) e))

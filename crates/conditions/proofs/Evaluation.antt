@@ -20,59 +20,59 @@ use Rattle.conditions.specs.Evaluates.{Evaluates}
 use Rattle.conditions.specs.Truth.{truthOf}
 use Rattle.conditions.proofs.ConditionRows.{and-first, and-second, condition-kind, constant-variable, first-variable, lower-item, not-row, or-first, or-second, second-variable}
 
-module _ (G : Graph) (t : List ℕ) (row : ℕ) (b : Bound) (r : Row) (d : Reads t row r) (st : Stands t row) (a : Truth) where
+module _ (G : Graph) (pattern : List ℕ) (row : ℕ) (b : Bound) (r : Row) (d : Reads pattern row r) (st : Stands pattern row) (a : Truth) where
   pub constant : r .kind ≡ 16 → (k : Binding) → bindingOf k ≡ boundOf b (r .p) → truthOf a ≡ equal3 (propertyAt G (bindingOf k) (r .q)) (some (some (r .r)))
-      → Evaluates G t row b a
+      → Evaluates G pattern row b a
   unfolding holds3
   constant e k ek h = record {
     is = λ θ i f v s.
-        let (low, high) = constant-variable t row r d st e in
-        let z : equalsConstant (r .p) (r .q) (r .r) ≡ θ = cc (item-constant t row r d (st .formed) (st .room) e) in
+        let (low, high) = constant-variable pattern row r d st e in
+        let z : equalsConstant (r .p) (r .q) (r .r) ≡ θ = cc (item-constant pattern row r d (st .formed) (st .room) e) in
         h ∙ ap (λ (x : Option Element). equal3 (propertyAt G x (r .q)) (some (some (r .r)))) (ek ∙ s .is (r .p) low high) ∙ ap (holds3 G f v) z;
   }
 
   pub properties : r .kind ≡ 17 → (k l : Binding) → bindingOf k ≡ boundOf b (r .p) → bindingOf l ≡ boundOf b (r .r)
-      → truthOf a ≡ equal3 (propertyAt G (bindingOf k) (r .q)) (propertyAt G (bindingOf l) (r .s)) → Evaluates G t row b a
+      → truthOf a ≡ equal3 (propertyAt G (bindingOf k) (r .q)) (propertyAt G (bindingOf l) (r .s)) → Evaluates G pattern row b a
   unfolding holds3
   properties e k l ek el h = record {
     is = λ θ i f v s.
-        let (low, high) = first-variable t row r d st e in
-        let (low₂, high₂) = second-variable t row r d st e in
-        let z : equalsProperty (r .p) (r .q) (r .r) (r .s) ≡ θ = cc (item-property t row r d (st .formed) (st .room) e) in
+        let (low, high) = first-variable pattern row r d st e in
+        let (low₂, high₂) = second-variable pattern row r d st e in
+        let z : equalsProperty (r .p) (r .q) (r .r) (r .s) ≡ θ = cc (item-property pattern row r d (st .formed) (st .room) e) in
         h ∙ ap₂ (λ (x y : Option Element). equal3 (propertyAt G x (r .q)) (propertyAt G y (r .s))) (ek ∙ s .is (r .p) low high) (el ∙ s .is (r .r) low₂ high₂)
         ∙ ap (holds3 G f v) z;
   }
 
-  module _ (x : Truth) (ex : Evaluates G t (r .p) b x) where
-    pub negation : r .kind ≡ 20 → truthOf a ≡ not3 (truthOf x) → Evaluates G t row b a
+  module _ (x : Truth) (ex : Evaluates G pattern (r .p) b x) where
+    pub negation : r .kind ≡ 20 → truthOf a ≡ not3 (truthOf x) → Evaluates G pattern row b a
     unfolding holds3
     negation e h = record {
       is = λ θ i f v s.
-          let z : neg (asCondition (itemAt (rowsOf t) (r .p))) ≡ θ = cc (item-neg t row r d (st .formed) (st .room) e) in
-          h ∙ ap not3 (ex .is _ (lower-item t row (r .p) st (not-row t row r d st e)) f v s) ∙ ap (holds3 G f v) z;
+          let z : neg (asCondition (itemAt (rowsOf pattern) (r .p))) ≡ θ = cc (item-neg pattern row r d (st .formed) (st .room) e) in
+          h ∙ ap not3 (ex .is _ (lower-item pattern row (r .p) st (not-row pattern row r d st e)) f v s) ∙ ap (holds3 G f v) z;
     }
 
-    module _ (y : Truth) (ey : Evaluates G t (r .q) b y) where
-      pub conjunction : r .kind ≡ 18 → truthOf a ≡ and3 (truthOf x) (truthOf y) → Evaluates G t row b a
+    module _ (y : Truth) (ey : Evaluates G pattern (r .q) b y) where
+      pub conjunction : r .kind ≡ 18 → truthOf a ≡ and3 (truthOf x) (truthOf y) → Evaluates G pattern row b a
       unfolding holds3
       conjunction e h = record {
         is = λ θ i f v s.
-            let first = lower-item t row (r .p) st (and-first t row r d st e) in
-            let second = lower-item t row (r .q) st (and-second t row r d st e) in
-            let z : and (asCondition (itemAt (rowsOf t) (r .p))) (asCondition (itemAt (rowsOf t) (r .q))) ≡ θ = cc (item-and t row r d (st .formed) (st .room) e) in
+            let first = lower-item pattern row (r .p) st (and-first pattern row r d st e) in
+            let second = lower-item pattern row (r .q) st (and-second pattern row r d st e) in
+            let z : and (asCondition (itemAt (rowsOf pattern) (r .p))) (asCondition (itemAt (rowsOf pattern) (r .q))) ≡ θ = cc (item-and pattern row r d (st .formed) (st .room) e) in
             h ∙ ap₂ and3 (ex .is _ first f v s) (ey .is _ second f v s) ∙ ap (holds3 G f v) z;
       }
 
-      pub disjunction : r .kind ≡ 19 → truthOf a ≡ or3 (truthOf x) (truthOf y) → Evaluates G t row b a
+      pub disjunction : r .kind ≡ 19 → truthOf a ≡ or3 (truthOf x) (truthOf y) → Evaluates G pattern row b a
       unfolding holds3
       disjunction e h = record {
         is = λ θ i f v s.
-            let first = lower-item t row (r .p) st (or-first t row r d st e) in
-            let second = lower-item t row (r .q) st (or-second t row r d st e) in
-            let z : or (asCondition (itemAt (rowsOf t) (r .p))) (asCondition (itemAt (rowsOf t) (r .q))) ≡ θ = cc (item-or t row r d (st .formed) (st .room) e) in
+            let first = lower-item pattern row (r .p) st (or-first pattern row r d st e) in
+            let second = lower-item pattern row (r .q) st (or-second pattern row r d st e) in
+            let z : or (asCondition (itemAt (rowsOf pattern) (r .p))) (asCondition (itemAt (rowsOf pattern) (r .q))) ≡ θ = cc (item-or pattern row r d (st .formed) (st .room) e) in
             h ∙ ap₂ or3 (ex .is _ first f v s) (ey .is _ second f v s) ∙ ap (holds3 G f v) z;
       }
 
   -- a row of another kind is no condition
-  pub no-condition : (r .kind ≡ 16 → ⊥) → (r .kind ≡ 17 → ⊥) → (r .kind ≡ 18 → ⊥) → (r .kind ≡ 19 → ⊥) → (r .kind ≡ 20 → ⊥) → Evaluates G t row b a
-  no-condition n₁ n₂ n₃ n₄ n₅ = record { is = λ θ i f v s. let (low, high) = condition-kind t row r d st θ i in absurd (omega arith) }
+  pub no-condition : (r .kind ≡ 16 → ⊥) → (r .kind ≡ 17 → ⊥) → (r .kind ≡ 18 → ⊥) → (r .kind ≡ 19 → ⊥) → (r .kind ≡ 20 → ⊥) → Evaluates G pattern row b a
+  no-condition n₁ n₂ n₃ n₄ n₅ = record { is = λ θ i f v s. let (low, high) = condition-kind pattern row r d st θ i in absurd (omega arith) }

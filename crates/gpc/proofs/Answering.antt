@@ -1,20 +1,19 @@
 -- What each way through the judge's and the page's operation leaves.
-use mathlib.Core.Path.{_≡_, refl, sym, ap, ap₂, _∙_}
+use mathlib.Core.Path.{_≡_, refl, sym, ap, _∙_}
 use mathlib.Core.Bool.{Bool, true, false, not}
 use mathlib.Core.Option.{none, some}
 use mathlib.Core.List.{List, [], _++_, _∷_}
-use Prim.Native.Nat.{ℕ, zero, suc, _-_, _<_, _≤_}
+use Prim.Native.Nat.{ℕ, zero, suc, _<_, _≤_}
 use mathlib.Core.Logic.{_⊎_, inl, inr}
 use native.Mathlib.Omega.{arith}
 use lib.Dec.{ltb}
-use lib.ListN.{drop, length, replicate, take}
+use lib.ListN.{drop, length, replicate}
 use borrow.Author.Tests.{le-ltb, leb-true, ltb-false}
 use Rattle.meaning.proofs.Logic.{either, no-false, no-true}
-use Rattle.meaning.specs.Basics.{Cause, firstOf, whole}
+use Rattle.meaning.specs.Basics.{Cause, firstOf, rowless}
 use Rattle.meaning.specs.FullListing.{fixedFault, judge}
-use Rattle.meaning.specs.Machine.{fillPage}
 use Rattle.meaning.specs.Operations.{JudgeLeft, fillPageLeft, judgeRecord, judgeUnless}
-use Rattle.meaning.specs.Page.{Left, Lent, left, refused, unanswered}
+use Rattle.meaning.specs.Page.{Left, Lent, left}
 use Rattle.meaning.specs.Report.{bit, causeBytes, cleared, over, reportBytes, wideEnough}
 use Rattle.search.proofs.PageCall.{call-refused, call-unanswered}
 use Rattle.table.specs.declared.causes.Verdict.{Verdict}
@@ -22,7 +21,7 @@ use Rattle.table.specs.Verdicts.{causeOf, isRefused}
 use Rattle.words.specs.Fault.{numberOf, rowOf}
 use Rattle.words.proofs.Refusals.{cause-reported}
 use Rattle.gpc.specs.Answered.{Begun, FirstCause, JudgeReported, RestKept}
-use Rattle.gpc.proofs.Ways.{narrow-is, wide-enough, wide-is}
+use Rattle.gpc.proofs.Ways.{narrow-is, wide-is}
 
 -- ------------------------------------------------------------------ the work buffer
 pub drop-part : (n : ℕ) (ys w : List ℕ) → length ys ≡ n → drop n (ys ++ w) ≡ w
@@ -31,26 +30,26 @@ drop-part zero (y ∷ ys) w e = absurd (omega arith)
 drop-part (suc n) [] w e = absurd (omega arith)
 drop-part (suc n) (y ∷ ys) w e = drop-part n ys w (omega arith)
 
-cleared-rest : (n : ℕ) (a b : List ℕ) → drop n a ≡ drop n b → cleared n a ≡ cleared n b
+cleared-rest : (n : ℕ) (a image : List ℕ) → drop n a ≡ drop n image → cleared n a ≡ cleared n image
 unfolding cleared
-cleared-rest n a b e = ap (λ (w : List ℕ). replicate n 0 ++ w) e
+cleared-rest n a image e = ap (λ (w : List ℕ). replicate n 0 ++ w) e
 
-pub refusal-written : (v : Verdict) (a b : ℕ) (report₀ report : List ℕ) → a ≡ numberOf (causeOf v) → b ≡ rowOf (causeOf v) → report ≡ over (reportBytes a b 0 0 0 0) report₀ → report ≡ over (causeBytes (causeOf v)) report₀
-refusal-written v a b report₀ report e f w = w ∙ rw (e, f, cause-reported (causeOf v)) refl
+pub refusal-written : (v : Verdict) (a image : ℕ) (report₀ report : List ℕ) → a ≡ numberOf (causeOf v) → image ≡ rowOf (causeOf v) → report ≡ over (reportBytes a image 0 0 0 0) report₀ → report ≡ over (causeBytes (causeOf v)) report₀
+refusal-written v a image report₀ report e f w = w ∙ rw (e, f, cause-reported (causeOf v)) refl
 
 -- ------------------------------------------------------------------ nothing refuses
-pub verdict-reported : (image t : List ℕ) (n : ℕ) (rec work₀ report₀ work₁ work report : List ℕ) (verdict : Bool) (v : ℕ)
-    → verdict ≡ judge image t n rec → RestKept work₀ work₁ → work ≡ cleared 20000 work₁ → v ≡ bit verdict → report ≡ over (reportBytes 0 0 v 0 0 0) report₀
-    → JudgeReported image t n rec work₀ report₀ work report
-verdict-reported image t n rec work₀ report₀ work₁ work report verdict v e k c b w = record {
+pub verdict-reported : (image pattern : List ℕ) (n : ℕ) (rec work₀ report₀ work₁ work report : List ℕ) (verdict : Bool) (v : ℕ)
+    → verdict ≡ judge image pattern n rec → RestKept work₀ work₁ → work ≡ cleared 20000 work₁ → v ≡ bit verdict → report ≡ over (reportBytes 0 0 v 0 0 0) report₀
+    → JudgeReported image pattern n rec work₀ report₀ work report
+verdict-reported image pattern n rec work₀ report₀ work₁ work report verdict v e k c b w = record {
   work-is = c ∙ cleared-rest 20000 work₁ work₀ (k .is);
   report-is = w ∙ ap (λ (x : ℕ). over (reportBytes 0 0 x 0 0 0) report₀) (b ∙ ap bit e);
 }
 
 -- ------------------------------------------------------------------ a cause, or none
 -- c is the first cause, found as the verdict v
-module _ (image t : List ℕ) (n : ℕ) (work : List ℕ) (v : Verdict) (first : FirstCause image t n work v) where
-  found : causeOf v ≡ firstOf (fixedFault image t n) (whole 22 (ltb (length work) 20000))
+module _ (image pattern : List ℕ) (n : ℕ) (work : List ℕ) (v : Verdict) (first : FirstCause image pattern n work v) where
+  found : causeOf v ≡ firstOf (fixedFault image pattern n) (rowless 22 (ltb (length work) 20000))
   found = first .is
 
   none-first : (a b : Cause) → isRefused (firstOf a b) ≡ false → (a ≡ none) × (b ≡ none)
@@ -59,15 +58,15 @@ module _ (image t : List ℕ) (n : ℕ) (work : List ℕ) (v : Verdict) (first :
   none-first none (some c) e = no-true e
   none-first (some c) b e = no-true e
 
-  whole-none : (b : Bool) → whole 22 b ≡ none → b ≡ false
-  unfolding whole isRefused
+  whole-none : (b : Bool) → rowless 22 b ≡ none → b ≡ false
+  unfolding rowless isRefused
   whole-none true e = no-true (ap isRefused e)
   whole-none false e = refl
 
-  neither : (r : Bool) → r ≡ isRefused (causeOf v) → r ≡ false → (fixedFault image t n ≡ none) × (whole 22 (ltb (length work) 20000) ≡ none)
-  neither r e f = none-first (fixedFault image t n) (whole 22 (ltb (length work) 20000)) (ap isRefused (sym found) ∙ (sym e ∙ f))
+  neither : (r : Bool) → r ≡ isRefused (causeOf v) → r ≡ false → (fixedFault image pattern n ≡ none) × (rowless 22 (ltb (length work) 20000) ≡ none)
+  neither r e f = none-first (fixedFault image pattern n) (rowless 22 (ltb (length work) 20000)) (ap isRefused (sym found) ∙ (sym e ∙ f))
 
-  pub granted : (r : Bool) → r ≡ isRefused (causeOf v) → r ≡ false → fixedFault image t n ≡ none
+  pub granted : (r : Bool) → r ≡ isRefused (causeOf v) → r ≡ false → fixedFault image pattern n ≡ none
   granted r e f = neither r e f .0
 
   pub roomy : (r : Bool) → r ≡ isRefused (causeOf v) → r ≡ false → 20000 ≤ length work
@@ -83,7 +82,7 @@ module _ (image t : List ℕ) (n : ℕ) (work : List ℕ) (v : Verdict) (first :
 
   -- ---------------------------------------------------------------- how a call begins
   module _ (report₀ : List ℕ) (s : Bool) (area : s ≡ not (wideEnough report₀)) where
-    pub begun-refused : s ≡ false → (r : Bool) → r ≡ isRefused (causeOf v) → r ≡ true → (report : List ℕ) → report ≡ over (causeBytes (causeOf v)) report₀ → Begun image t n work report₀ report 1
+    pub begun-refused : s ≡ false → (r : Bool) → r ≡ isRefused (causeOf v) → r ≡ true → (report : List ℕ) → report ≡ over (causeBytes (causeOf v)) report₀ → Begun image pattern n work report₀ report 1
     begun-refused h r e f report w =
         let x = the-cause r e f in
         record {
@@ -93,7 +92,7 @@ module _ (image t : List ℕ) (n : ℕ) (work : List ℕ) (v : Verdict) (first :
           granted-is = λ z. absurd (omega arith);
         }
 
-    pub begun-granted : s ≡ false → (r : Bool) → r ≡ isRefused (causeOf v) → r ≡ false → Begun image t n work report₀ report₀ 2
+    pub begun-granted : s ≡ false → (r : Bool) → r ≡ isRefused (causeOf v) → r ≡ false → Begun image pattern n work report₀ report₀ 2
     begun-granted h r e f = record {
       least = omega arith;
       unanswered-is = λ z. absurd (omega arith);
@@ -101,8 +100,8 @@ module _ (image t : List ℕ) (n : ℕ) (work : List ℕ) (v : Verdict) (first :
       granted-is = λ z. (wide-is report₀ s area h, granted r e f, roomy r e f, refl);
     }
 
-pub begun-short : (image t : List ℕ) (n : ℕ) (work report : List ℕ) (s : Bool) → s ≡ not (wideEnough report) → s ≡ true → Begun image t n work report report 0
-begun-short image t n work report s e f = record {
+pub begun-short : (image pattern : List ℕ) (n : ℕ) (work report : List ℕ) (s : Bool) → s ≡ not (wideEnough report) → s ≡ true → Begun image pattern n work report report 0
+begun-short image pattern n work report s e f = record {
   least = omega arith;
   unanswered-is = λ z. (narrow-is report s e f, refl);
   refused-is = λ z. absurd (omega arith);
@@ -110,9 +109,9 @@ begun-short image t n work report s e f = record {
 }
 
 -- ------------------------------------------------------------------ how it goes on
-module _ (image t : List ℕ) (n : ℕ) (work report₀ report : List ℕ) (k : ℕ) (begun : Begun image t n work report₀ report k) where
+module _ (image pattern : List ℕ) (n : ℕ) (work report₀ report : List ℕ) (k : ℕ) (begun : Begun image pattern n work report₀ report k) where
   -- not refused
-  pub on-granted : 2 ≤ k → fixedFault image t n ≡ none
+  pub on-granted : 2 ≤ k → fixedFault image pattern n ≡ none
   on-granted h = let z : k ≡ 2 = omega (arith, begun .least) in begun .granted-is z .1
 
   pub on-roomy : 2 ≤ k → 20000 ≤ length work
@@ -133,7 +132,7 @@ module _ (image t : List ℕ) (n : ℕ) (work report₀ report : List ℕ) (k : 
   -- ---------------------------------------------------------------- judge a record
   module _ (rec : List ℕ) where
     abbrev Judged : ℕ → List ℕ → List ℕ → Type 0
-    Judged r w d = _≡_ {A = JudgeLeft} (record { result = r; work = w; report = d }) (judgeRecord image t n rec work report₀)
+    Judged r w d = _≡_ {A = JudgeLeft} (record { result = r; work = w; report = d }) (judgeRecord image pattern n rec work report₀)
 
     judge-unanswered : k ≡ 0 → Judged k work report
     unfolding judgeRecord
@@ -143,12 +142,12 @@ module _ (image t : List ℕ) (n : ℕ) (work report₀ report : List ℕ) (k : 
     unfolding judgeRecord judgeUnless
     judge-refused z = let u = begun .refused-is z in rw (z, u .0, u .1 .1, u .1 .2) refl
 
-    pub judge-stopped : k < 2 → _≡_ {A = JudgeLeft} (record { result = k; work = work; report = report }) (judgeRecord image t n rec work report₀)
+    pub judge-stopped : k < 2 → _≡_ {A = JudgeLeft} (record { result = k; work = work; report = report }) (judgeRecord image pattern n rec work report₀)
     judge-stopped h = either (zero-or-one h) judge-unanswered judge-refused
 
-    pub judge-answered : 2 ≤ k → (work₁ report₁ : List ℕ) → JudgeReported image t n rec work report work₁ report₁
-        → _≡_ {A = JudgeLeft} (record { result = 1; work = work₁; report = report₁ }) (judgeRecord image t n rec work report₀)
-    unfolding judgeRecord judgeUnless firstOf whole
+    pub judge-answered : 2 ≤ k → (work₁ report₁ : List ℕ) → JudgeReported image pattern n rec work report work₁ report₁
+        → _≡_ {A = JudgeLeft} (record { result = 1; work = work₁; report = report₁ }) (judgeRecord image pattern n rec work report₀)
+    unfolding judgeRecord judgeUnless firstOf rowless
     judge-answered h work₁ report₁ j =
         let z : k ≡ 2 = omega (arith, begun .least) in
         let u = begun .granted-is z in
@@ -162,20 +161,20 @@ module _ (image t : List ℕ) (n : ℕ) (work report₀ report : List ℕ) (k : 
     abbrev answered : ℕ → List ℕ → List ℕ → List ℕ → Left
     answered r p w d = record { result = r; page = p; work = w; report = d }
 
-    page-unanswered : k ≡ 0 → answered k page₀ work report ≡ fillPageLeft image t n bookmark lent
+    page-unanswered : k ≡ 0 → answered k page₀ work report ≡ fillPageLeft image pattern n bookmark lent
     unfolding fillPageLeft left
-    page-unanswered z = let u = begun .unanswered-is z in rw (z, u .1) (sym (call-unanswered image t n bookmark lent (u .0)))
+    page-unanswered z = let u = begun .unanswered-is z in rw (z, u .1) (sym (call-unanswered image pattern n bookmark lent (u .0)))
 
-    page-refused : k ≡ 1 → answered k page₀ work report ≡ fillPageLeft image t n bookmark lent
+    page-refused : k ≡ 1 → answered k page₀ work report ≡ fillPageLeft image pattern n bookmark lent
     unfolding fillPageLeft left
-    page-refused z = let u = begun .refused-is z in rw (z, u .1 .2) (sym (call-refused image t n bookmark lent (u .0) (u .1 .0) (u .1 .1)))
+    page-refused z = let u = begun .refused-is z in rw (z, u .1 .2) (sym (call-refused image pattern n bookmark lent (u .0) (u .1 .0) (u .1 .1)))
 
-    pub page-stopped : k < 2 → _≡_ {A = Left} (record { result = k; page = page₀; work = work; report = report }) (fillPageLeft image t n bookmark (record { page = page₀; work = work; report = report₀ }))
+    pub page-stopped : k < 2 → _≡_ {A = Left} (record { result = k; page = page₀; work = work; report = report }) (fillPageLeft image pattern n bookmark (record { page = page₀; work = work; report = report₀ }))
     page-stopped h = either (zero-or-one h) page-unanswered page-refused
 
     pub page-answered : 2 ≤ k → (r : ℕ) (page work₁ report₁ : List ℕ)
-        → _≡_ {A = Left} (record { result = r; page = page; work = work₁; report = report₁ }) (fillPageLeft image t n bookmark (record { page = page₀; work = work; report = report }))
-        → _≡_ {A = Left} (record { result = r; page = page; work = work₁; report = report₁ }) (fillPageLeft image t n bookmark (record { page = page₀; work = work; report = report₀ }))
+        → _≡_ {A = Left} (record { result = r; page = page; work = work₁; report = report₁ }) (fillPageLeft image pattern n bookmark (record { page = page₀; work = work; report = report }))
+        → _≡_ {A = Left} (record { result = r; page = page; work = work₁; report = report₁ }) (fillPageLeft image pattern n bookmark (record { page = page₀; work = work; report = report₀ }))
     page-answered h r page work₁ report₁ e =
         let z : k ≡ 2 = omega (arith, begun .least) in
-        e ∙ ap (λ (d : List ℕ). fillPageLeft image t n bookmark (record { page = page₀; work = work; report = d })) (begun .granted-is z .3)
+        e ∙ ap (λ (d : List ℕ). fillPageLeft image pattern n bookmark (record { page = page₀; work = work; report = d })) (begun .granted-is z .3)

@@ -3,10 +3,9 @@ use mathlib.Core.Path.{_≡_, refl, sym, _∙_}
 use mathlib.Core.Bool.{Bool, true, false, not}
 use mathlib.Core.Option.{some}
 use mathlib.Core.List.{List}
-use Prim.Native.Nat.{ℕ, _<_, _≤_}
+use Prim.Native.Nat.{ℕ, _≤_}
 use lib.Dec.{leb, ltb}
 use lib.ListN.{length}
-use native.Mathlib.Omega.{arith}
 use borrow.Author.Tests.{leb-true, leb-false, le-ltb, lt-ltb}
 use Rattle.meaning.proofs.Logic.{not-true, not-false}
 use Rattle.meaning.specs.Basics.{Cause, if_then_else_}
@@ -41,13 +40,13 @@ module _ (d : List ℕ) where
   wide-enough s e f = leb-true 64 (length d) (wide-is s e f)
 
 -- b is the image, d the report's bytes
-module _ (b d : List ℕ) where
-  pub no-report : (s : Bool) → s ≡ not (wideEnough d) → s ≡ true → _≡_ {A = ReadLeft} (record { result = 0; report = d }) (readImage b d)
+module _ (image d : List ℕ) where
+  pub no-report : (s : Bool) → s ≡ not (wideEnough d) → s ≡ true → _≡_ {A = ReadLeft} (record { result = 0; report = d }) (readImage image d)
   unfolding readImage
   no-report s e f = rw (narrow-is d s e f)
 
-  pub reported : (s : Bool) → s ≡ not (wideEnough d) → s ≡ false → (c : Cause) → c ≡ imageFault b → (n r : ℕ) → n ≡ numberOf c → r ≡ rowOf c → (d′ : List ℕ) → d′ ≡ over (reportBytes n r 0 0 0 0) d
-      → _≡_ {A = ReadLeft} (record { result = 1; report = d′ }) (readImage b d)
+  pub reported : (s : Bool) → s ≡ not (wideEnough d) → s ≡ false → (c : Cause) → c ≡ imageFault image → (n r : ℕ) → n ≡ numberOf c → r ≡ rowOf c → (d′ : List ℕ) → d′ ≡ over (reportBytes n r 0 0 0 0) d
+      → _≡_ {A = ReadLeft} (record { result = 1; report = d′ }) (readImage image d)
   unfolding readImage
   reported s h f c e n r en er d′ w = rw (wide-is d s h f, ← e, ← cause-reported c, w, en, er)
 
@@ -58,9 +57,9 @@ module _ (w t d : List ℕ) where
   no-check s e f = rw (narrow-is d s e f)
 
   -- what a call with a report area leaves, by whether the type area is too short
-  checked-by : (b : Bool) (c : Cause) (t′ : List ℕ) → c ≡ (if b then some (17, 0) else patternFault w) → t′ ≡ (if b then t else over (typesOrZeros (patternFault w) w) t)
+  checked-by : (image : Bool) (c : Cause) (t′ : List ℕ) → c ≡ (if image then some (17, 0) else patternFault w) → t′ ≡ (if image then t else over (typesOrZeros (patternFault w) w) t)
       → _≡_ {A = CheckLeft} (record { result = 1; types = t′; report = over (causeBytes c) d })
-      (if b then record { result = 1; types = t; report = over (causeBytes (some (17, 0))) d } else record { result = 1; types = over (typesOrZeros (patternFault w) w) t; report = over (causeBytes (patternFault w)) d })
+      (if image then record { result = 1; types = t; report = over (causeBytes (some (17, 0))) d } else record { result = 1; types = over (typesOrZeros (patternFault w) w) t; report = over (causeBytes (patternFault w)) d })
   checked-by true c t′ e f = rw (e, f) refl
   checked-by false c t′ e f = rw (e, f) refl
 

@@ -4,7 +4,7 @@ ghost use mathlib.Core.Path.{_≡_};
 ghost use mathlib.Core.Bool.{_&&_, not};
 ghost use lib.Dec.{leb, ltb};
 ghost use lib.ListN.{length};
-ghost use Rattle.meaning.specs.Basics.{firstOf, whole};
+ghost use Rattle.meaning.specs.Basics.{firstOf, rowless};
 ghost use Rattle.meaning.specs.Image.{imageFault};
 ghost use Rattle.table.specs.Verdicts.{causeOf};
 ghost use Rattle.gpc.specs.Answered.{FirstCause};
@@ -26,7 +26,7 @@ fn image_verdict(image: &[u8]) -> Verdict
 
 // 21.
 fn restrictor_verdict(restrictor: u64) -> Verdict
-    ensures { λ r. ⌜ causeOf r ≡ whole 21 (not (leb 1 restrictor && leb restrictor 4)) ⌝ }
+    ensures { λ r. ⌜ causeOf r ≡ rowless 21 (not (leb 1 restrictor && leb restrictor 4)) ⌝ }
 {
     if restrictor < 1 {
         return Verdict::Refused { number: 21, row: 0 };
@@ -39,7 +39,7 @@ fn restrictor_verdict(restrictor: u64) -> Verdict
 
 // 22.
 fn work_verdict(work: &[u16]) -> Verdict
-    ensures { λ r. ⌜ causeOf r ≡ whole 22 (ltb (length (now (work .entry))) 20000) ⌝ }
+    ensures { λ r. ⌜ causeOf r ≡ rowless 22 (ltb (length (now (work .entry))) 20000) ⌝ }
 {
     if work.len() < 20000 {
         return Verdict::Refused { number: 22, row: 0 };

@@ -16,10 +16,10 @@ at-map f zero i e h = absurd (omega arith)
 at-map f (suc n) i zero h = ap (λ (k : ℕ). some (f k)) (omega arith)
 at-map f (suc n) i (suc e) h = at-map f n (suc i) e (omega arith) ∙ ap (λ (k : ℕ). some (f k)) (omega arith)
 
-edge-is : (b : List ℕ) (e : ℕ) → e < edgeCount b → getElem? (graphOf b .edges) e ≡ some (edgeRow b e)
+edge-is : (image : List ℕ) (e : ℕ) → e < edgeCount image → getElem? (graphOf image .edges) e ≡ some (edgeRow image e)
 unfolding graphOf
-edge-is b e h = at-map (edgeRow b) (edgeCount b) 0 e h ∙ ap (λ (k : ℕ). some (edgeRow b k)) (omega arith)
+edge-is image e h = at-map (edgeRow image) (edgeCount image) 0 e h ∙ ap (λ (k : ℕ). some (edgeRow image k)) (omega arith)
 
-pub ends-are-nodes : (b : List ℕ) (e : ℕ) → imageFault b ≡ none → e < edgeCount b → (edgeRow b e .first < nodeCount b) × (edgeRow b e .second < nodeCount b)
+pub ends-are-nodes : (image : List ℕ) (e : ℕ) → imageFault image ≡ none → e < edgeCount image → (edgeRow image e .first < nodeCount image) × (edgeRow image e .second < nodeCount image)
 unfolding graphOf
-ends-are-nodes b e sound h = image-read b sound .valid e (edgeRow b e) (edge-is b e h)
+ends-are-nodes image e sound h = image-read image sound .valid e (edgeRow image e) (edge-is image e h)

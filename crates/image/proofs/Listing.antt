@@ -6,23 +6,23 @@ use Prim.Native.Nat.{ℕ, _+_, _/_}
 use native.Mathlib.Omega.{arith}
 use lib.Dec.{eqb}
 use lib.ListN.{length}
-use Rattle.meaning.specs.Image.{bytes, nodeCount, edgeCount, labelCount, propertyCount, goodDirectory, tooMany}
+use Rattle.meaning.specs.Image.{nodeCount, edgeCount, labelCount, propertyCount, goodDirectory, tooMany}
 use Rattle.image.specs.declared.directory.Directory.{Directory}
 use Rattle.image.specs.declared.sections.Sections.{Sections}
 use Rattle.image.specs.Directory.{Listed, Small, meets, whole}
 use Rattle.image.specs.Sections.{Laid, crowded}
 
-pub sums-fit : (b : List ℕ) (d : Directory) → Listed b d → Small d
-sums-fit b d l = record { nodes = omega (arith, l .nodes); edges = omega (arith, l .edges); labels = omega (arith, l .labels); properties = omega (arith, l .properties) }
+pub sums-fit : (image : List ℕ) (d : Directory) → Listed image d → Small d
+sums-fit image d l = record { nodes = omega (arith, l .nodes); edges = omega (arith, l .edges); labels = omega (arith, l .labels); properties = omega (arith, l .properties) }
 
-pub laid : (b : List ℕ) (d : Directory) → Listed b d → Laid b (record {
+pub laid : (image : List ℕ) (d : Directory) → Listed image d → Laid image (record {
   nodes = record { at = d .nodes .at; count = d .nodes .bytes / 2 };
   edges = record { at = d .edges .at; count = d .edges .bytes / 6 };
   labels = record { at = d .labels .at; count = d .labels .bytes / 4 };
   properties = record { at = d .properties .at; count = d .properties .bytes / 6 };
 })
 unfolding nodeCount edgeCount labelCount propertyCount
-laid b d l = record {
+laid image d l = record {
   nodes = rw (l .nodes .bytes-is);
   edges = rw (l .edges .bytes-is);
   labels = rw (l .labels .bytes-is);
@@ -48,20 +48,20 @@ and-assoc true true false d e r = refl
 and-assoc true true true false e r = refl
 and-assoc true true true true e r = refl
 
-module _ (b : List ℕ) (d : Directory) (l : Listed b d) where
-  directory-is : (meets d (length b) && whole d) ≡ goodDirectory b
+module _ (image : List ℕ) (d : Directory) (l : Listed image d) where
+  directory-is : (meets d (length image) && whole d) ≡ goodDirectory image
   unfolding goodDirectory
   directory-is =
       and-assoc (eqb (d .nodes .at) 16) (eqb (d .edges .at) (d .nodes .at + d .nodes .bytes)) (eqb (d .labels .at) (d .edges .at + d .edges .bytes))
-      (eqb (d .properties .at) (d .labels .at + d .labels .bytes)) (eqb (length b) (d .properties .at + d .properties .bytes)) (whole d)
+      (eqb (d .properties .at) (d .labels .at + d .labels .bytes)) (eqb (length image) (d .properties .at + d .properties .bytes)) (whole d)
       ∙ rw (l .nodes .at-is, l .nodes .bytes-is, l .edges .at-is, l .edges .bytes-is, l .labels .at-is, l .labels .bytes-is, l .properties .at-is, l .properties .bytes-is)
 
-  pub meeting : (m r : Bool) → m ≡ meets d (length b) → m ≡ true → r ≡ whole d → r ≡ goodDirectory b
+  pub meeting : (m r : Bool) → m ≡ meets d (length image) → m ≡ true → r ≡ whole d → r ≡ goodDirectory image
   meeting m r e t f = rw (f, ← directory-is, ← e, t)
 
-  pub not-meeting : (m : Bool) → m ≡ meets d (length b) → m ≡ false → false ≡ goodDirectory b
+  pub not-meeting : (m : Bool) → m ≡ meets d (length image) → m ≡ false → false ≡ goodDirectory image
   not-meeting m e t = rw (← directory-is, ← e, t)
 
-pub crowded-is : (b : List ℕ) (s : Sections) → Laid b s → crowded s ≡ tooMany b
+pub crowded-is : (image : List ℕ) (s : Sections) → Laid image s → crowded s ≡ tooMany image
 unfolding tooMany
-crowded-is b s l = rw (l .nodes, l .edges, l .labels, l .properties)
+crowded-is image s l = rw (l .nodes, l .edges, l .labels, l .properties)

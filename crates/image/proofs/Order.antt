@@ -1,13 +1,13 @@
 -- The order of rows and of pairs.
 use mathlib.Core.Path.{_≡_, refl}
-use mathlib.Core.Bool.{Bool, _&&_, _||_, false, or-false, true}
+use mathlib.Core.Bool.{Bool, _&&_, or-false, true}
 use mathlib.Core.Logic.{_⊎_, inl, inr}
 use Prim.Native.Nat.{ℕ, zero, suc, _-_, _<_}
 use native.Mathlib.Omega.{arith}
 use lib.Dec.{eqb, ltb}
 use borrow.Author.Tests.{eq-eqb, ne-eqb, le-ltb, lt-ltb, ltb-true, eqb-true}
 use Rattle.meaning.specs.Image.{pairLess, rises}
-use Rattle.meaning.proofs.Logic.{either, or-cases, or-l, or-r, and-l, and-r, is-false}
+use Rattle.meaning.proofs.Logic.{either, or-cases, or-l, or-r, and-l, and-r}
 
 pub first-rises : (f : ℕ → Bool) (i : ℕ) → i ≡ 0 → rises i f ≡ true
 unfolding rises
@@ -52,6 +52,3 @@ less-trans a b c d e f h k = less-is a b e f (go (is-less a b c d h) (is-less c 
     go (inl x) (inr y) = inl (omega arith)
     go (inr x) (inl y) = inl (omega arith)
     go (inr x) (inr y) = inr (omega arith, omega arith)
-
-pub not-less-itself : (a b : ℕ) → pairLess a b a b ≡ false
-not-less-itself a b = is-false (pairLess a b a b) (λ h. either (is-less a b a b h) (λ x. omega arith) (λ x. omega arith))

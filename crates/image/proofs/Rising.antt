@@ -26,24 +26,24 @@ module _ (f g : ℕ → ℕ) (n : ℕ) (step : (i : ℕ) → suc i < n → pairL
           let z : i ≢ j = eqb-false i j e in
           less-trans (f i) (g i) (f j) (g j) (f (suc j)) (g (suc j)) (ih (omega arith) (omega arith)) (step j k)
 
-module _ (b : List ℕ) (i : ℕ) where
-  label-step : badLabel b (suc i) ≡ false → pairLess (labelCell b i 0) (labelCell b i 1) (labelCell b (suc i) 0) (labelCell b (suc i) 1) ≡ true
+module _ (image : List ℕ) (i : ℕ) where
+  label-step : badLabel image (suc i) ≡ false → pairLess (labelCell image i 0) (labelCell image i 1) (labelCell image (suc i) 0) (labelCell image (suc i) 1) ≡ true
   unfolding badLabel rises
   label-step h =
-      let p : Bool = ltb (labelCell b (suc i) 0) (nodeCount b + edgeCount b) && not (eqb (labelCell b (suc i) 1) 0) in
-      let q : Bool = pairLess (labelCell b i 0) (labelCell b i 1) (labelCell b (suc i) 0) (labelCell b (suc i) 1) in
+      let p : Bool = ltb (labelCell image (suc i) 0) (nodeCount image + edgeCount image) && not (eqb (labelCell image (suc i) 1) 0) in
+      let q : Bool = pairLess (labelCell image i 0) (labelCell image i 1) (labelCell image (suc i) 0) (labelCell image (suc i) 1) in
       and-r p q (not-false (p && q) h)
 
-  property-step : badProperty b (suc i) ≡ false → pairLess (propertyCell b i 0) (propertyCell b i 1) (propertyCell b (suc i) 0) (propertyCell b (suc i) 1) ≡ true
+  property-step : badProperty image (suc i) ≡ false → pairLess (propertyCell image i 0) (propertyCell image i 1) (propertyCell image (suc i) 0) (propertyCell image (suc i) 1) ≡ true
   unfolding badProperty rises
   property-step h =
-      let p : Bool = ltb (propertyCell b (suc i) 0) (nodeCount b + edgeCount b) in
-      let q : Bool = pairLess (propertyCell b i 0) (propertyCell b i 1) (propertyCell b (suc i) 0) (propertyCell b (suc i) 1) in
+      let p : Bool = ltb (propertyCell image (suc i) 0) (nodeCount image + edgeCount image) in
+      let q : Bool = pairLess (propertyCell image i 0) (propertyCell image i 1) (propertyCell image (suc i) 0) (propertyCell image (suc i) 1) in
       and-r p q (not-false (p && q) h)
 
-module _ (b : List ℕ) (e : imageFault b ≡ none) where
-  pub labels-rise : (i j : ℕ) → i < j → j < labelCount b → pairLess (labelCell b i 0) (labelCell b i 1) (labelCell b j 0) (labelCell b j 1) ≡ true
-  labels-rise = rising (λ i. labelCell b i 0) (λ i. labelCell b i 1) (labelCount b) (λ i h. label-step b i (sound-row b e Labels (suc i) h))
+module _ (image : List ℕ) (e : imageFault image ≡ none) where
+  pub labels-rise : (i j : ℕ) → i < j → j < labelCount image → pairLess (labelCell image i 0) (labelCell image i 1) (labelCell image j 0) (labelCell image j 1) ≡ true
+  labels-rise = rising (λ i. labelCell image i 0) (λ i. labelCell image i 1) (labelCount image) (λ i h. label-step image i (sound-row image e Labels (suc i) h))
 
-  pub properties-rise : (i j : ℕ) → i < j → j < propertyCount b → pairLess (propertyCell b i 0) (propertyCell b i 1) (propertyCell b j 0) (propertyCell b j 1) ≡ true
-  properties-rise = rising (λ i. propertyCell b i 0) (λ i. propertyCell b i 1) (propertyCount b) (λ i h. property-step b i (sound-row b e Properties (suc i) h))
+  pub properties-rise : (i j : ℕ) → i < j → j < propertyCount image → pairLess (propertyCell image i 0) (propertyCell image i 1) (propertyCell image j 0) (propertyCell image j 1) ≡ true
+  properties-rise = rising (λ i. propertyCell image i 0) (λ i. propertyCell image i 1) (propertyCount image) (λ i h. property-step image i (sound-row image e Properties (suc i) h))

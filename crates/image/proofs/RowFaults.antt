@@ -14,52 +14,52 @@ use Rattle.image.proofs.Tests.{not-less}
 use Rattle.image.proofs.Order.{first-rises, later-rises}
 
 -- ------------------------------------------------------------------ cells
-module _ (b : List ℕ) (s : Sections) (l : Laid b s) (r i j : ℕ) where
-  pub is-edge-cell : r ≡ number b (s .edges .at + (6 * i + 2 * j)) → r ≡ edgeCell b i j
+module _ (image : List ℕ) (s : Sections) (l : Laid image s) (r i j : ℕ) where
+  pub is-edge-cell : r ≡ number image (s .edges .at + (6 * i + 2 * j)) → r ≡ edgeCell image i j
   unfolding edgeCell
   is-edge-cell e = e ∙ rw (l .edges-at)
 
-  pub is-label-cell : r ≡ number b (s .labels .at + (4 * i + 2 * j)) → r ≡ labelCell b i j
+  pub is-label-cell : r ≡ number image (s .labels .at + (4 * i + 2 * j)) → r ≡ labelCell image i j
   unfolding labelCell
   is-label-cell e = e ∙ rw (l .labels-at)
 
-  pub is-property-cell : r ≡ number b (s .properties .at + (6 * i + 2 * j)) → r ≡ propertyCell b i j
+  pub is-property-cell : r ≡ number image (s .properties .at + (6 * i + 2 * j)) → r ≡ propertyCell image i j
   unfolding propertyCell
   is-property-cell e = e ∙ rw (l .properties-at)
 
-pub is-node-cell : (b : List ℕ) (s : Sections) (l : Laid b s) (r i : ℕ) → r ≡ number b (s .nodes .at + 2 * i) → r ≡ nodeCell b i
+pub is-node-cell : (image : List ℕ) (s : Sections) (l : Laid image s) (r i : ℕ) → r ≡ number image (s .nodes .at + 2 * i) → r ≡ nodeCell image i
 unfolding nodeCell
-is-node-cell b s l r i e = e ∙ rw (l .nodes-at)
+is-node-cell image s l r i e = e ∙ rw (l .nodes-at)
 
 -- ------------------------------------------------------------------ nodes
-module _ (b : List ℕ) (i : ℕ) where
-  pub node-first : i ≡ 0 → false ≡ badNode b i
+module _ (image : List ℕ) (i : ℕ) where
+  pub node-first : i ≡ 0 → false ≡ badNode image i
   unfolding badNode
-  node-first h = rw (first-rises (λ j. ltb (nodeCell b j) (nodeCell b i)) i h)
+  node-first h = rw (first-rises (λ j. ltb (nodeCell image j) (nodeCell image i)) i h)
 
-  pub node-later : (x y : ℕ) → (i ≡ 0 → ⊥) → x ≡ nodeCell b i → y ≡ nodeCell b (i - 1) → leb x y ≡ badNode b i
+  pub node-later : (x y : ℕ) → (i ≡ 0 → ⊥) → x ≡ nodeCell image i → y ≡ nodeCell image (i - 1) → leb x y ≡ badNode image i
   unfolding badNode
-  node-later x y h e f = rw (later-rises (λ j. ltb (nodeCell b j) (nodeCell b i)) i h, e, f) (not-less (nodeCell b i) (nodeCell b (i - 1)))
+  node-later x y h e f = rw (later-rises (λ j. ltb (nodeCell image j) (nodeCell image i)) i h, e, f) (not-less (nodeCell image i) (nodeCell image (i - 1)))
 
 -- ------------------------------------------------------------------ edges
-module _ (b : List ℕ) (s : Sections) (l : Laid b s) (i f g d : ℕ) (ef : f ≡ edgeCell b i 0) (eg : g ≡ edgeCell b i 1) (ed : d ≡ edgeCell b i 2) where
-  pub first-end-out : s .nodes .count ≤ f → true ≡ badEdge b i
+module _ (image : List ℕ) (s : Sections) (l : Laid image s) (i f g d : ℕ) (ef : f ≡ edgeCell image i 0) (eg : g ≡ edgeCell image i 1) (ed : d ≡ edgeCell image i 2) where
+  pub first-end-out : s .nodes .count ≤ f → true ≡ badEdge image i
   unfolding badEdge
   first-end-out h = rw (← ef, ← l .nodes, le-ltb f (s .nodes .count) h)
 
-  pub second-end-out : f < s .nodes .count → s .nodes .count ≤ g → true ≡ badEdge b i
+  pub second-end-out : f < s .nodes .count → s .nodes .count ≤ g → true ≡ badEdge image i
   unfolding badEdge
   second-end-out h k = rw (← ef, ← eg, ← l .nodes, lt-ltb f (s .nodes .count) h, le-ltb g (s .nodes .count) k)
 
-  pub directed : f < s .nodes .count → g < s .nodes .count → d ≡ 1 → false ≡ badEdge b i
+  pub directed : f < s .nodes .count → g < s .nodes .count → d ≡ 1 → false ≡ badEdge image i
   unfolding badEdge
   directed h k e = rw (← ef, ← eg, ← ed, ← l .nodes, lt-ltb f (s .nodes .count) h, lt-ltb g (s .nodes .count) k, e)
 
-  pub no-direction : f < s .nodes .count → g < s .nodes .count → (d ≡ 1 → ⊥) → (d ≡ 0 → ⊥) → true ≡ badEdge b i
+  pub no-direction : f < s .nodes .count → g < s .nodes .count → (d ≡ 1 → ⊥) → (d ≡ 0 → ⊥) → true ≡ badEdge image i
   unfolding badEdge
   no-direction h k e z = rw (← ef, ← eg, ← ed, ← l .nodes, lt-ltb f (s .nodes .count) h, lt-ltb g (s .nodes .count) k, ne-eqb d 1 e, ne-eqb d 0 z)
 
-  pub undirected : f < s .nodes .count → g < s .nodes .count → d ≡ 0 → ltb g f ≡ badEdge b i
+  pub undirected : f < s .nodes .count → g < s .nodes .count → d ≡ 0 → ltb g f ≡ badEdge image i
   unfolding badEdge
   undirected h k z = rw (← ef, ← eg, ← ed, ← l .nodes, lt-ltb f (s .nodes .count) h, lt-ltb g (s .nodes .count) k, z, not-less f g) (twice (ltb g f))
     where
@@ -68,45 +68,45 @@ module _ (b : List ℕ) (s : Sections) (l : Laid b s) (i f g d : ℕ) (ef : f �
       twice false = refl
 
 -- ------------------------------------------------------------------ labels
-module _ (b : List ℕ) (s : Sections) (l : Laid b s) (i e t : ℕ) (ee : e ≡ labelCell b i 0) (et : t ≡ labelCell b i 1) where
+module _ (image : List ℕ) (s : Sections) (l : Laid image s) (i e t : ℕ) (ee : e ≡ labelCell image i 0) (et : t ≡ labelCell image i 1) where
   above : ℕ → Bool
-  above j = pairLess (labelCell b j 0) (labelCell b j 1) (labelCell b i 0) (labelCell b i 1)
+  above j = pairLess (labelCell image j 0) (labelCell image j 1) (labelCell image i 0) (labelCell image i 1)
 
-  pub label-out : s .nodes .count + s .edges .count ≤ e → true ≡ badLabel b i
+  pub label-out : s .nodes .count + s .edges .count ≤ e → true ≡ badLabel image i
   unfolding badLabel
   label-out h = rw (← ee, ← l .nodes, ← l .edges, le-ltb e (s .nodes .count + s .edges .count) h)
 
-  pub no-label : e < s .nodes .count + s .edges .count → t ≡ 0 → true ≡ badLabel b i
+  pub no-label : e < s .nodes .count + s .edges .count → t ≡ 0 → true ≡ badLabel image i
   unfolding badLabel
   no-label h z = rw (← ee, ← et, ← l .nodes, ← l .edges, lt-ltb e (s .nodes .count + s .edges .count) h, z)
 
-  pub label-first : e < s .nodes .count + s .edges .count → (t ≡ 0 → ⊥) → i ≡ 0 → false ≡ badLabel b i
+  pub label-first : e < s .nodes .count + s .edges .count → (t ≡ 0 → ⊥) → i ≡ 0 → false ≡ badLabel image i
   unfolding badLabel above
   label-first h z k = rw (first-rises above i k, ← ee, ← et, ← l .nodes, ← l .edges, lt-ltb e (s .nodes .count + s .edges .count) h, ne-eqb t 0 z)
 
-  pub label-later : e < s .nodes .count + s .edges .count → (t ≡ 0 → ⊥) → (i ≡ 0 → ⊥) → (p q : ℕ) → p ≡ labelCell b (i - 1) 0 → q ≡ labelCell b (i - 1) 1
-      → (r : Bool) → r ≡ pairLess p q e t → not r ≡ badLabel b i
+  pub label-later : e < s .nodes .count + s .edges .count → (t ≡ 0 → ⊥) → (i ≡ 0 → ⊥) → (p q : ℕ) → p ≡ labelCell image (i - 1) 0 → q ≡ labelCell image (i - 1) 1
+      → (r : Bool) → r ≡ pairLess p q e t → not r ≡ badLabel image i
   unfolding badLabel above
   label-later h z k p q ep eq r er = rw (later-rises above i k, ← ee, ← et, ← ep, ← eq, ← l .nodes, ← l .edges, lt-ltb e (s .nodes .count + s .edges .count) h, ne-eqb t 0 z, er)
 
 -- ------------------------------------------------------------------ properties
-module _ (b : List ℕ) (s : Sections) (l : Laid b s) (i e t : ℕ) (ee : e ≡ propertyCell b i 0) (et : t ≡ propertyCell b i 1) where
+module _ (image : List ℕ) (s : Sections) (l : Laid image s) (i e t : ℕ) (ee : e ≡ propertyCell image i 0) (et : t ≡ propertyCell image i 1) where
   higher : ℕ → Bool
-  higher j = pairLess (propertyCell b j 0) (propertyCell b j 1) (propertyCell b i 0) (propertyCell b i 1)
+  higher j = pairLess (propertyCell image j 0) (propertyCell image j 1) (propertyCell image i 0) (propertyCell image i 1)
 
-  pub property-out : s .nodes .count + s .edges .count ≤ e → true ≡ badProperty b i
+  pub property-out : s .nodes .count + s .edges .count ≤ e → true ≡ badProperty image i
   unfolding badProperty
   property-out h = rw (← ee, ← l .nodes, ← l .edges, le-ltb e (s .nodes .count + s .edges .count) h)
 
-  pub property-first : e < s .nodes .count + s .edges .count → i ≡ 0 → false ≡ badProperty b i
+  pub property-first : e < s .nodes .count + s .edges .count → i ≡ 0 → false ≡ badProperty image i
   unfolding badProperty higher
   property-first h k = rw (first-rises higher i k, ← ee, ← l .nodes, ← l .edges, lt-ltb e (s .nodes .count + s .edges .count) h)
 
-  pub property-later : e < s .nodes .count + s .edges .count → (i ≡ 0 → ⊥) → (p q : ℕ) → p ≡ propertyCell b (i - 1) 0 → q ≡ propertyCell b (i - 1) 1
-      → (r : Bool) → r ≡ pairLess p q e t → not r ≡ badProperty b i
+  pub property-later : e < s .nodes .count + s .edges .count → (i ≡ 0 → ⊥) → (p q : ℕ) → p ≡ propertyCell image (i - 1) 0 → q ≡ propertyCell image (i - 1) 1
+      → (r : Bool) → r ≡ pairLess p q e t → not r ≡ badProperty image i
   unfolding badProperty higher
   property-later h k p q ep eq r er = rw (later-rises higher i k, ← ee, ← et, ← ep, ← eq, ← l .nodes, ← l .edges, lt-ltb e (s .nodes .count + s .edges .count) h, er)
 
 -- ------------------------------------------------------------------ any section
-pub bad-row-of : (x y : Section) (b : List ℕ) (i : ℕ) (r : Bool) → x ≡ y → r ≡ badRow y b i → r ≡ badRow x b i
-bad-row-of x y b i r e h = rw e h
+pub bad-row-of : (x y : Section) (image : List ℕ) (i : ℕ) (r : Bool) → x ≡ y → r ≡ badRow y image i → r ≡ badRow x image i
+bad-row-of x y image i r e h = rw e h

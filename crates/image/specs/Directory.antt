@@ -4,23 +4,23 @@ use mathlib.Core.List.{List}
 use mathlib.Core.Bool.{Bool, _&&_}
 use Prim.Native.Nat.{ℕ, _+_, _%_, _<_}
 use lib.Dec.{eqb}
-use Rattle.meaning.specs.Image.{offset, bytes}
+use Rattle.meaning.specs.Image.{offset, sectionLength}
 use Rattle.image.specs.declared.directory.Directory.{Directory}
 use Rattle.image.specs.declared.directory.Extent.{Extent}
 
 -- offset and length of section k, as 16 bits hold them
-pub record Placed (b : List ℕ) (k : ℕ) (e : Extent) : Type 0 where
-  pub at-is : e .at ≡ offset b k
-  pub bytes-is : e .bytes ≡ bytes b k
+pub record Placed (image : List ℕ) (k : ℕ) (e : Extent) : Type 0 where
+  pub at-is : e .at ≡ offset image k
+  pub bytes-is : e .bytes ≡ sectionLength image k
   pub at-small : e .at < 65536
   pub bytes-small : e .bytes < 65536
 
 -- the directory as it stands in the bytes
-pub record Listed (b : List ℕ) (d : Directory) : Type 0 where
-  pub nodes : Placed b 0 (d .nodes)
-  pub edges : Placed b 1 (d .edges)
-  pub labels : Placed b 2 (d .labels)
-  pub properties : Placed b 3 (d .properties)
+pub record Listed (image : List ℕ) (d : Directory) : Type 0 where
+  pub nodes : Placed image 0 (d .nodes)
+  pub edges : Placed image 1 (d .edges)
+  pub labels : Placed image 2 (d .labels)
+  pub properties : Placed image 3 (d .properties)
 
 -- sums of two of the numbers fit
 pub record Small (d : Directory) : Type 0 where

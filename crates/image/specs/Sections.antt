@@ -9,15 +9,15 @@ use Rattle.meaning.specs.Image.{offset, nodeCount, edgeCount, labelCount, prope
 use Rattle.image.specs.declared.sections.Sections.{Sections}
 
 -- a count and an offset, as 16 bits hold them
-pub record Laid (b : List ℕ) (s : Sections) : Type 0 where
-  pub nodes : s .nodes .count ≡ nodeCount b
-  pub edges : s .edges .count ≡ edgeCount b
-  pub labels : s .labels .count ≡ labelCount b
-  pub properties : s .properties .count ≡ propertyCount b
-  pub nodes-at : s .nodes .at ≡ offset b 0
-  pub edges-at : s .edges .at ≡ offset b 1
-  pub labels-at : s .labels .at ≡ offset b 2
-  pub properties-at : s .properties .at ≡ offset b 3
+pub record Laid (image : List ℕ) (s : Sections) : Type 0 where
+  pub nodes : s .nodes .count ≡ nodeCount image
+  pub edges : s .edges .count ≡ edgeCount image
+  pub labels : s .labels .count ≡ labelCount image
+  pub properties : s .properties .count ≡ propertyCount image
+  pub nodes-at : s .nodes .at ≡ offset image 0
+  pub edges-at : s .edges .at ≡ offset image 1
+  pub labels-at : s .labels .at ≡ offset image 2
+  pub properties-at : s .properties .at ≡ offset image 3
   pub nodes-few : s .nodes .count < 65536
   pub edges-few : s .edges .count < 65536
   pub labels-few : s .labels .count < 65536
@@ -32,6 +32,6 @@ abbrev pub crowded : Sections → Bool
 crowded s = not ((leb (s .nodes .count) 200 && leb (s .edges .count) 200) && (leb (s .labels .count) 800 && leb (s .properties .count) 2000))
 
 -- what is asked of whoever reads cells: the reader found no fault
-pub record Checked (b : List ℕ) (s : Sections) : Type 0 where
-  pub laid : Laid b s
-  pub sound : imageFault b ≡ none
+pub record Checked (image : List ℕ) (s : Sections) : Type 0 where
+  pub laid : Laid image s
+  pub sound : imageFault image ≡ none

@@ -19,24 +19,24 @@ pub struct Directory {
 }
 
 // Pair k of the directory.
-fn section(bytes: &[u8], k: usize) -> Extent
+fn section(image: &[u8], k: usize) -> Extent
     requires { ⌜ k < 4 ⌝ }
-    ensures { λ r. ⌜ Placed (now (bytes .entry)) k r ⌝ }
+    ensures { λ r. ⌜ Placed (now (image .entry)) k r ⌝ }
 {
     Extent {
-        at: words::size_at(bytes, 4 * k),
-        bytes: words::size_at(bytes, 4 * k + 2),
+        at: words::size_at(image, 4 * k),
+        bytes: words::size_at(image, 4 * k + 2),
     }
 }
 
 // All four pairs; bytes that are not there count as 0.
-pub fn directory_of(bytes: &[u8]) -> Directory
-    ensures { λ r. ⌜ Listed (now (bytes .entry)) r ⌝ }
+pub fn directory_of(image: &[u8]) -> Directory
+    ensures { λ r. ⌜ Listed (now (image .entry)) r ⌝ }
 {
-    let nodes = section(bytes, 0);
-    let edges = section(bytes, 1);
-    let labels = section(bytes, 2);
-    let properties = section(bytes, 3);
+    let nodes = section(image, 0);
+    let edges = section(image, 1);
+    let labels = section(image, 2);
+    let properties = section(image, 3);
     Directory {
         nodes: nodes,
         edges: edges,
@@ -83,11 +83,11 @@ fn whole_rows(d: Directory) -> bool
 }
 
 // No cause for 2.
-pub fn good_directory(bytes: &[u8]) -> bool
-    ensures { λ r. ⌜ r ≡ goodDirectory (now (bytes .entry)) ⌝ }
+pub fn good_directory(image: &[u8]) -> bool
+    ensures { λ r. ⌜ r ≡ goodDirectory (now (image .entry)) ⌝ }
 {
-    let d = directory_of(bytes);
-    if sections_meet(d, bytes.len()) {
+    let d = directory_of(image);
+    if sections_meet(d, image.len()) {
         return whole_rows(d);
     }
     false

@@ -10,26 +10,26 @@ ghost use Rattle.meaning.specs.Image.{pairLess, badNode, badEdge, badLabel, bad
 ghost use Rattle.image.specs.Sections.{Laid};
 
 // 4: the outer number does not rise.
-pub fn bad_node(bytes: &[u8], s: Sections, i: usize) -> bool
-    requires { ⌜ Laid (now bytes) s ⌝ }
+pub fn bad_node(image: &[u8], s: Sections, i: usize) -> bool
+    requires { ⌜ Laid (now image) s ⌝ }
     requires { ⌜ i < 65536 ⌝ }
-    ensures { λ r. ⌜ r ≡ badNode (now (bytes .entry)) i ⌝ }
+    ensures { λ r. ⌜ r ≡ badNode (now (image .entry)) i ⌝ }
 {
     if i == 0 {
         return false;
     }
-    node_cell(bytes, s, i) <= node_cell(bytes, s, i - 1)
+    node_cell(image, s, i) <= node_cell(image, s, i - 1)
 }
 
 // 5: an end is no node, the direction is neither 0 nor 1, or an undirected edge has its first end above its second.
-pub fn bad_edge(bytes: &[u8], s: Sections, i: usize) -> bool
-    requires { ⌜ Laid (now bytes) s ⌝ }
+pub fn bad_edge(image: &[u8], s: Sections, i: usize) -> bool
+    requires { ⌜ Laid (now image) s ⌝ }
     requires { ⌜ i < 65536 ⌝ }
-    ensures { λ r. ⌜ r ≡ badEdge (now (bytes .entry)) i ⌝ }
+    ensures { λ r. ⌜ r ≡ badEdge (now (image .entry)) i ⌝ }
 {
-    let first = edge_cell(bytes, s, i, 0) as usize;
-    let second = edge_cell(bytes, s, i, 1) as usize;
-    let direction = edge_cell(bytes, s, i, 2);
+    let first = edge_cell(image, s, i, 0) as usize;
+    let second = edge_cell(image, s, i, 1) as usize;
+    let direction = edge_cell(image, s, i, 2);
     if s.nodes.count <= first {
         return true;
     }
@@ -56,13 +56,13 @@ pub fn pair_less(a: usize, b: usize, c: usize, d: usize) -> bool
 }
 
 // 6: no element, the label 0, or a pair that does not rise.
-pub fn bad_label(bytes: &[u8], s: Sections, i: usize) -> bool
-    requires { ⌜ Laid (now bytes) s ⌝ }
+pub fn bad_label(image: &[u8], s: Sections, i: usize) -> bool
+    requires { ⌜ Laid (now image) s ⌝ }
     requires { ⌜ i < 65536 ⌝ }
-    ensures { λ r. ⌜ r ≡ badLabel (now (bytes .entry)) i ⌝ }
+    ensures { λ r. ⌜ r ≡ badLabel (now (image .entry)) i ⌝ }
 {
-    let element = label_cell(bytes, s, i, 0) as usize;
-    let label = label_cell(bytes, s, i, 1) as usize;
+    let element = label_cell(image, s, i, 0) as usize;
+    let label = label_cell(image, s, i, 1) as usize;
     if s.nodes.count + s.edges.count <= element {
         return true;
     }
@@ -73,21 +73,21 @@ pub fn bad_label(bytes: &[u8], s: Sections, i: usize) -> bool
         return false;
     }
     !pair_less(
-        label_cell(bytes, s, i - 1, 0) as usize,
-        label_cell(bytes, s, i - 1, 1) as usize,
+        label_cell(image, s, i - 1, 0) as usize,
+        label_cell(image, s, i - 1, 1) as usize,
         element,
         label,
     )
 }
 
 // 7: no element, or a pair of element and key that does not rise.
-pub fn bad_property(bytes: &[u8], s: Sections, i: usize) -> bool
-    requires { ⌜ Laid (now bytes) s ⌝ }
+pub fn bad_property(image: &[u8], s: Sections, i: usize) -> bool
+    requires { ⌜ Laid (now image) s ⌝ }
     requires { ⌜ i < 65536 ⌝ }
-    ensures { λ r. ⌜ r ≡ badProperty (now (bytes .entry)) i ⌝ }
+    ensures { λ r. ⌜ r ≡ badProperty (now (image .entry)) i ⌝ }
 {
-    let element = property_cell(bytes, s, i, 0) as usize;
-    let key = property_cell(bytes, s, i, 1) as usize;
+    let element = property_cell(image, s, i, 0) as usize;
+    let key = property_cell(image, s, i, 1) as usize;
     if s.nodes.count + s.edges.count <= element {
         return true;
     }
@@ -95,8 +95,8 @@ pub fn bad_property(bytes: &[u8], s: Sections, i: usize) -> bool
         return false;
     }
     !pair_less(
-        property_cell(bytes, s, i - 1, 0) as usize,
-        property_cell(bytes, s, i - 1, 1) as usize,
+        property_cell(image, s, i - 1, 0) as usize,
+        property_cell(image, s, i - 1, 1) as usize,
         element,
         key,
     )

@@ -37,30 +37,30 @@ fn row_count(s: Sections, section: Section) -> usize
 }
 
 // Whether row i of a section is faulty.
-fn bad_row(bytes: &[u8], s: Sections, section: Section, i: usize) -> bool
-    requires { ⌜ Laid (now bytes) s ⌝ }
+fn bad_row(image: &[u8], s: Sections, section: Section, i: usize) -> bool
+    requires { ⌜ Laid (now image) s ⌝ }
     requires { ⌜ i < 65536 ⌝ }
-    ensures { λ r. ⌜ r ≡ badRow section (now (bytes .entry)) i ⌝ }
+    ensures { λ r. ⌜ r ≡ badRow section (now (image .entry)) i ⌝ }
 {
     match section {
-        Section::Nodes => bad_node(bytes, s, i),
-        Section::Edges => bad_edge(bytes, s, i),
-        Section::Labels => bad_label(bytes, s, i),
-        Section::Properties => bad_property(bytes, s, i),
+        Section::Nodes => bad_node(image, s, i),
+        Section::Edges => bad_edge(image, s, i),
+        Section::Labels => bad_label(image, s, i),
+        Section::Properties => bad_property(image, s, i),
     }
 }
 
 // The lowest faulty row of a section.
-pub fn lowest_bad(bytes: &[u8], s: Sections, section: Section) -> Row
-    requires { ⌜ Laid (now bytes) s ⌝ }
-    ensures { λ r. ⌜ foundRow r ≡ lowest (rowCount section (now (bytes .entry))) 0 (badRow section (now (bytes .entry))) ⌝ }
+pub fn lowest_bad(image: &[u8], s: Sections, section: Section) -> Row
+    requires { ⌜ Laid (now image) s ⌝ }
+    ensures { λ r. ⌜ foundRow r ≡ lowest (rowCount section (now (image .entry))) 0 (badRow section (now (image .entry))) ⌝ }
 {
     let count = row_count(s, section);
     let mut next: usize = 0;
     while next < count {
         let row = next;
         next += 1;
-        if bad_row(bytes, s, section, row) {
+        if bad_row(image, s, section, row) {
             return Row::At(row);
         }
     }

@@ -59,38 +59,38 @@ impl Verdict {
 }
 
 // 4 to 7: the first section with a faulty row, and its lowest one.
-fn read_rows(bytes: &[u8], s: Sections) -> Verdict
-    requires { ⌜ Laid (now bytes) s ⌝ }
-    ensures { λ r. ⌜ causeOf r ≡ rowFault (now (bytes .entry)) ⌝ }
+fn read_rows(image: &[u8], s: Sections) -> Verdict
+    requires { ⌜ Laid (now image) s ⌝ }
+    ensures { λ r. ⌜ causeOf r ≡ rowFault (now (image .entry)) ⌝ }
 {
-    if let Row::At(i) = lowest_bad(bytes, s, Section::Nodes) {
+    if let Row::At(i) = lowest_bad(image, s, Section::Nodes) {
         return Verdict::BadNode(i);
     }
-    if let Row::At(i) = lowest_bad(bytes, s, Section::Edges) {
+    if let Row::At(i) = lowest_bad(image, s, Section::Edges) {
         return Verdict::BadEdge(i);
     }
-    if let Row::At(i) = lowest_bad(bytes, s, Section::Labels) {
+    if let Row::At(i) = lowest_bad(image, s, Section::Labels) {
         return Verdict::BadLabel(i);
     }
-    if let Row::At(i) = lowest_bad(bytes, s, Section::Properties) {
+    if let Row::At(i) = lowest_bad(image, s, Section::Properties) {
         return Verdict::BadProperty(i);
     }
     Verdict::Accepted
 }
 
 // The causes 1 to 7, in the order of 01.
-pub fn read(bytes: &[u8]) -> Verdict
-    ensures { λ r. ⌜ causeOf r ≡ imageFault (now (bytes .entry)) ⌝ }
+pub fn read(image: &[u8]) -> Verdict
+    ensures { λ r. ⌜ causeOf r ≡ imageFault (now (image .entry)) ⌝ }
 {
-    if bytes.len() < 16 {
+    if image.len() < 16 {
         return Verdict::TooShort;
     }
-    if !good_directory(bytes) {
+    if !good_directory(image) {
         return Verdict::BadDirectory;
     }
-    let s = sections_of(bytes);
+    let s = sections_of(image);
     if too_many(s) {
         return Verdict::TooManyRows;
     }
-    read_rows(bytes, s)
+    read_rows(image, s)
 }

@@ -18,10 +18,10 @@ pub struct Sections {
 }
 
 // Where the rows stand, by the directory alone.
-pub fn sections_of(bytes: &[u8]) -> Sections
-    ensures { λ r. ⌜ Laid (now (bytes .entry)) r ⌝ }
+pub fn sections_of(image: &[u8]) -> Sections
+    ensures { λ r. ⌜ Laid (now (image .entry)) r ⌝ }
 {
-    let d = directory_of(bytes);
+    let d = directory_of(image);
     Sections {
         nodes: Rows {
             at: d.nodes.at,

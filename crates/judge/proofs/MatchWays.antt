@@ -33,10 +33,10 @@ at-end-frontier none = refl
 at-end-frontier (some []) = refl
 at-end-frontier (some (w ∷ ws)) = refl
 
-module _ (graph fit plan rec : List ℕ) (last : ℕ) (h : Prepared graph fit plan rec (length rec) last) where
+module _ (graph plan fit rec : List ℕ) (last : ℕ) (h : Prepared graph plan fit rec (length rec) last) where
   -- the last row of the table
   root-room : (1 ≤ length (tableIn plan) / 5) × (length (tableIn plan) / 5 - 1 < 64)
-  root-room = let r = root-matchable graph fit plan rec (length rec) last h in (omega (arith, r .1 .0), r .1 .1)
+  root-room = let r = root-matchable graph plan fit rec (length rec) last h in (omega (arith, r .1 .0), r .1 .1)
 
   pub some-row : (k : ℕ) → k ≡ length (tableIn plan) / 5 → 1 ≤ k
   some-row k e = omega (arith, root-room .0)
@@ -53,7 +53,7 @@ module _ (graph fit plan rec : List ℕ) (last : ℕ) (h : Prepared graph fit pl
     ends-there =
         let f = typeOf (patternIn plan) in
         let k : take (length rec) rec ≡ rec = take-length rec in
-        let e : viewAt rec end ≡ afterSlots eight f (viewAt rec (2 * last + 2)) = rw k at (s .ends f (λ x low high. getD-drop (typesAt (root (tableIn plan))) plan x 0 ∙ row-is graph fit plan rec (length rec) last h .planned .types x low high)) in
+        let e : viewAt rec end ≡ afterSlots eight f (viewAt rec (2 * last + 2)) = rw k at (s .ends f (λ x low high. getD-drop (typesAt (root (tableIn plan))) plan x 0 ∙ row-is graph plan fit rec (length rec) last h .planned .types x low high)) in
         ap (λ (o : Option (List ℕ)). atEnd (afterSlots eight f o)) (sym (skip-first rec (2 * last) (omega (arith, h .path-known))))
         ∙ (ap atEnd (sym e) ∙ (at-end-frontier (viewAt rec end) ∙ view-frontier rec end))
 

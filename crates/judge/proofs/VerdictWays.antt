@@ -79,8 +79,8 @@ module _ (graph plan rec : List ℕ) (s : Sound graph plan) where
 pub nodes-in : (graph rec : List ℕ) (last count : ℕ) (r : Bool) → count ≡ nodesIn graph → NodesWithin rec last count r → r ≡ true → NodesBelow rec last (nodesIn graph)
 nodes-in graph rec last count r d w e = rw d at (w .yes-is e)
 
-pub prepared-is : (graph fit plan rec : List ℕ) (last : ℕ) → Ready graph plan → FitIs graph plan fit rec last → Told rec last → 401 ≤ length fit → Prepared graph fit plan rec (length rec) last
-prepared-is graph fit plan rec last d f T l = record {
+pub prepared-is : (graph plan fit rec : List ℕ) (last : ℕ) → Ready graph plan → FitIs graph plan fit rec last → Told rec last → 401 ≤ length fit → Prepared graph plan fit rec (length rec) last
+prepared-is graph plan fit rec last d f T l = record {
   ready = d;
   fit-is = f;
   short = T .few;

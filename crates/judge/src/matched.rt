@@ -7,8 +7,8 @@ ghost use Rattle.judge.specs.Judging.{Matches};
 ghost use Rattle.plan.specs.Ready.{Prepared};
 
 // The values end where the words end, and the end of the path is an end of a match with them.
-pub fn matches(graph: &[u64], fit: &[u64], plan: &[u64], rec: &[u16], last: usize) -> bool
-    requires { ⌜ Prepared (now graph) (now fit) (now plan) (now rec) (length (now rec)) last ⌝ }
+pub fn matches(graph: &[u64], plan: &[u64], fit: &[u64], rec: &[u16], last: usize) -> bool
+    requires { ⌜ Prepared (now graph) (now plan) (now fit) (now rec) (length (now rec)) last ⌝ }
     ensures { λ r. ⌜ Matches (now (graph .entry)) (now (plan .entry)) (now (rec .entry)) last r ⌝ }
 {
     let known = rec.len();
@@ -17,5 +17,5 @@ pub fn matches(graph: &[u64], fit: &[u64], plan: &[u64], rec: &[u16], last: usiz
     if slots.end != known {
         return false;
     }
-    path_ends(graph, fit, plan, rec, known, last)
+    path_ends(graph, plan, fit, rec, known, last)
 }

@@ -17,7 +17,7 @@ use Rattle.meaning.proofs.Unused.{unused→absent}
 use Rattle.meaning.proofs.Variables.{var-all}
 use Rattle.meaning.specs.Basics.{Cause, _∈_, eight, firstOf, lowest, upFrom}
 use Rattle.meaning.specs.Pattern.{Pattern, Sound, inVar, nesting}
-use Rattle.meaning.specs.Table.{Item, Row, anyOf, asPattern, condition, fault12, fault13, fault14, fault15, fault16, fine, formAt, isClash, isVariable, itemAt, nil, onPattern, pattern, rowCause, tableFault, tablePattern, untyped}
+use Rattle.meaning.specs.Table.{Item, Row, anyOf, asPattern, conditionItem, fault12, fault13, fault14, fault15, fault16, fine, formAt, isClash, isVariable, itemAt, noItem, onPattern, patternItem, rowCause, tableFault, tablePattern, untyped}
 use Rattle.meaning.specs.Typing.{Found, absent, clash, typeOf}
 
 -- a test that fails on all fails at each
@@ -60,9 +60,9 @@ typed-pattern π v u x = go (inVar π x) refl
 
 item-untyped : (x : Item) → onPattern untyped x ≡ false → untyped (asPattern x) ≡ false
 unfolding opened
-item-untyped (pattern π) e = e
-item-untyped (condition θ) e = refl
-item-untyped nil e = refl
+item-untyped (patternItem π) e = e
+item-untyped (conditionItem θ) e = refl
+item-untyped noItem e = refl
 
 -- what an accepted pattern is
 pub record Accepted (π : Pattern) : Type 0 where

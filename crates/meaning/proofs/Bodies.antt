@@ -12,30 +12,30 @@ use Rattle.meaning.proofs.Opened.{opened}
 use Rattle.meaning.proofs.Rows.{every-row, pattern-below}
 use Rattle.meaning.specs.Basics.{if_then_else_, max}
 use Rattle.meaning.specs.Pattern.{Sound, edgeless, nesting}
-use Rattle.meaning.specs.Table.{Form, Item, Row, asPattern, condition, conditionRow, fault14, fault15, fine, formAt, isAnd, isBad, isConcatenation, isConditioned, isConstant, isEdge, isNode, isNot, isOr, isProperty, isRepetition, isUnion, itemAt, make, nil, onPattern, pattern, patternRow, repeats, twoDeep}
+use Rattle.meaning.specs.Table.{Form, Item, Row, asPattern, conditionItem, conditionRow, fault14, fault15, fine, formAt, isAnd, isBad, isConcatenation, isConditioned, isConstant, isEdge, isNode, isNot, isOr, isProperty, isRepetition, isUnion, itemAt, make, noItem, onPattern, patternItem, patternRow, repeats, twoDeep}
 
 abbrev SoundItem : Item → Type 0
-SoundItem (pattern π) = Sound π
-SoundItem (condition θ) = Unit {0}
-SoundItem nil = Unit {0}
+SoundItem (patternItem π) = Sound π
+SoundItem (conditionItem θ) = Unit {0}
+SoundItem noItem = Unit {0}
 
 sound-pattern : (x : Item) → SoundItem x → Sound (asPattern x)
 unfolding opened
-sound-pattern (pattern π) h = h
-sound-pattern (condition θ) h = tt
-sound-pattern nil h = tt
+sound-pattern (patternItem π) h = h
+sound-pattern (conditionItem θ) h = tt
+sound-pattern noItem h = tt
 
 -- ---------------- 15: two deep
 abbrev ShallowItem : Item → Type 0
-ShallowItem (pattern π) = nesting π ≤ 2
-ShallowItem (condition θ) = Unit {0}
-ShallowItem nil = Unit {0}
+ShallowItem (patternItem π) = nesting π ≤ 2
+ShallowItem (conditionItem θ) = Unit {0}
+ShallowItem noItem = Unit {0}
 
 deep-pattern : (x : Item) → ShallowItem x → nesting (asPattern x) ≤ 2
 unfolding opened
-deep-pattern (pattern π) h = h
-deep-pattern (condition θ) h = omega arith
-deep-pattern nil h = omega arith
+deep-pattern (patternItem π) h = h
+deep-pattern (conditionItem θ) h = omega arith
+deep-pattern noItem h = omega arith
 
 max-bound : (a b d : ℕ) → a ≤ d → b ≤ d → max a b ≤ d
 unfolding opened

@@ -13,7 +13,7 @@ use Rattle.meaning.proofs.Granted.{full-not-empty}
 use Rattle.meaning.proofs.Logic.{no-false}
 use Rattle.meaning.proofs.Opened.{opened}
 use Rattle.meaning.proofs.Pages.{outcome-begins, printedRecords}
-use Rattle.meaning.specs.Basics.{All, Cause, firstOf, if_then_else_, keep, only, whole}
+use Rattle.meaning.specs.Basics.{All, Cause, firstOf, if_then_else_, keep, only, rowless}
 use Rattle.meaning.specs.FullListing.{fixedFault, fullListing}
 use Rattle.meaning.specs.Listing.{Before, before}
 use Rattle.meaning.specs.Machine.{fillPage, hostCalls, hostRun, lastOr, pageRecords, plainMachine, shownRecords}
@@ -29,10 +29,6 @@ digits-read zero x h = omega arith
 digits-read (suc n) x h =
     let k : x / 256 < 256 ^ n = omega (arith, h) in
     omega (arith, digits-read n (x / 256) k)
-
-pub length-report : (a b c d e f : ℕ) → length (reportBytes a b c d e f) ≡ 64
-unfolding opened printedRecords
-length-report a b c d e f = refl
 
 -- number 2 of a report over a lent area
 reported-count : (a b c d e f : ℕ) (rest : List ℕ) → c < 256 ^ 8 → reported 2 (reportBytes a b c d e f ++ rest) ≡ c
@@ -78,8 +74,8 @@ outcome-words fault c rest = go (wideEnough (c .report))
     unless none = fills rest
     unless (some f) = omega arith
 
-    go : (b : Bool) → Few (length (c .page)) (if b then unlessFault (firstOf fault (whole 22 (ltb (length (c .work)) 20000))) (filled (length (c .page)) rest) else unanswered)
-    go true = unless (firstOf fault (whole 22 (ltb (length (c .work)) 20000)))
+    go : (b : Bool) → Few (length (c .page)) (if b then unlessFault (firstOf fault (rowless 22 (ltb (length (c .work)) 20000))) (filled (length (c .page)) rest) else unanswered)
+    go true = unless (firstOf fault (rowless 22 (ltb (length (c .work)) 20000)))
     go false = omega arith
 
 -- ------------------------------------------------------------------ what C hands over shows the same records
@@ -99,27 +95,27 @@ all-keep P f (x ∷ xs) a = go (f x) (all-keep P f xs (a .1))
     go true i = (a .0, i)
     go false i = i
 
-module _ (image words : List ℕ) (n : ℕ) where
-  few-records : (c : Lent) (bookmark : List ℕ) → length (c .page) < 256 ^ 8 → length (printedRecords (fillPage image words n bookmark c .outcome)) < 256 ^ 8
+module _ (image pattern : List ℕ) (n : ℕ) where
+  few-records : (c : Lent) (bookmark : List ℕ) → length (c .page) < 256 ^ 8 → length (printedRecords (fillPage image pattern n bookmark c .outcome)) < 256 ^ 8
   unfolding opened printedRecords
   few-records c bookmark h =
-      let rest : List Record = after bookmark (fullListing image words n) in
-      let o : Outcome = outcome (fixedFault image words n) c rest in
-      let full : All (Before []) rest = all-keep (Before []) (before bookmark) (fullListing image words n) (full-not-empty image words n) in
-      let part : All (Before []) (printedRecords o ++ drop (length (printedRecords o)) rest) = rw (outcome-begins (fixedFault image words n) c rest) full in
+      let rest : List Record = after bookmark (fullListing image pattern n) in
+      let o : Outcome = outcome (fixedFault image pattern n) c rest in
+      let full : All (Before []) rest = all-keep (Before []) (before bookmark) (fullListing image pattern n) (full-not-empty image pattern n) in
+      let part : All (Before []) (printedRecords o ++ drop (length (printedRecords o)) rest) = rw (outcome-begins (fixedFault image pattern n) c rest) full in
       let k = count-words (printedRecords o) (all-left (Before []) (printedRecords o) (drop (length (printedRecords o)) rest) part) in
-      omega (arith, h, k, outcome-words (fixedFault image words n) c rest)
+      omega (arith, h, k, outcome-words (fixedFault image pattern n) c rest)
 
-  calls-are : (cs : List Lent) → All (λ c. length (c .page) < 256 ^ 8) cs → (bookmark : List ℕ) → hostCalls image words n bookmark cs ≡ map (λ t. t .left) (hostRun image words n bookmark cs)
+  calls-are : (cs : List Lent) → All (λ c. length (c .page) < 256 ^ 8) cs → (bookmark : List ℕ) → hostCalls image pattern n bookmark cs ≡ map (λ t. t .left) (hostRun image pattern n bookmark cs)
   unfolding opened printedRecords
   calls-are [] h bookmark = refl
   calls-are (c ∷ cs) h bookmark =
-      let types : ℕ → Found = typeOf (patternOf words) in
-      let o : Outcome = fillPage image words n bookmark c .outcome in
+      let types : ℕ → Found = typeOf (patternOf pattern) in
+      let o : Outcome = fillPage image pattern n bookmark c .outcome in
       let s : shownRecords types (left c o) ≡ pageRecords types (record { outcome = o; left = left c o }) = shown-is types c o (few-records c bookmark (h .0)) in
-      ap (λ (l : List Left). left c o ∷ l) (ap (λ (rs : List Record). hostCalls image words n (lastOr bookmark rs) cs) s ∙ calls-are cs (h .1) (lastOr bookmark (pageRecords types (record { outcome = o; left = left c o }))))
+      ap (λ (l : List Left). left c o ∷ l) (ap (λ (rs : List Record). hostCalls image pattern n (lastOr bookmark rs) cs) s ∙ calls-are cs (h .1) (lastOr bookmark (pageRecords types (record { outcome = o; left = left c o }))))
 
   -- pages of under 2⁶⁴ words, as all are: the calls of a host that has only what C hands it are the plain machine's
-  pub demand-3-bytes : (calls : List Lent) → All (λ c. length (c .page) < 256 ^ 8) calls → hostCalls image words n [] calls ≡ map (λ t. t .left) (plainMachine image words n calls)
+  pub demand-3-bytes : (calls : List Lent) → All (λ c. length (c .page) < 256 ^ 8) calls → hostCalls image pattern n [] calls ≡ map (λ t. t .left) (plainMachine image pattern n calls)
   unfolding opened printedRecords
-  demand-3-bytes calls h = calls-are calls h [] ∙ ap (map (λ t. t .left)) (demand-3 image words n calls)
+  demand-3-bytes calls h = calls-are calls h [] ∙ ap (map (λ t. t .left)) (demand-3 image pattern n calls)

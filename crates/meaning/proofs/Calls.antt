@@ -80,22 +80,22 @@ unfolding opened printedRecords
 all-right P [] ys h = h
 all-right P (x ∷ xs) ys h = all-right P xs ys (h .1)
 
-module _ (image words : List ℕ) (n : ℕ) where
+module _ (image pattern : List ℕ) (n : ℕ) where
   abbrev full : List Record
-  full = fullListing image words n
+  full = fullListing image pattern n
 
   abbrev types : ℕ → Found
-  types = typeOf (patternOf words)
+  types = typeOf (patternOf pattern)
 
   abbrev fault : Cause
-  fault = fixedFault image words n
+  fault = fixedFault image pattern n
 
   -- the records printed by a call that has `rest` left stand on its page
   turn-shows : (c : Lent) (pre rest : List Record) → full ≡ pre ++ rest → pageRecords types (record { outcome = outcome fault c rest; left = left c (outcome fault c rest) }) ≡ printedRecords (outcome fault c rest)
   unfolding opened printedRecords
   turn-shows c pre rest e =
       let o : Outcome = outcome fault c rest in
-      let h : All (Readable types) (pre ++ rest) = rw e at (full-readable image words n) in
+      let h : All (Readable types) (pre ++ rest) = rw e at (full-readable image pattern n) in
       let k : All (Readable types) (printedRecords o ++ drop (length (printedRecords o)) rest) = rw (outcome-begins fault c rest) (all-right (Readable types) pre rest h) in
       page-shows types c o (all-left (Readable types) (printedRecords o) (drop (length (printedRecords o)) rest) k)
 
@@ -107,11 +107,11 @@ module _ (image words : List ℕ) (n : ℕ) where
       e ∙ (ap (λ (t : List Record). pre ++ t) (sym (outcome-begins fault c rest)) ∙ sym (append-assoc pre out (drop (length out) rest)))
 
   -- ------------------------------------------------------------------ the two runs, with `pre` printed and `rest` left
-  runs-agree : (cs : List Lent) (pre rest : List Record) → full ≡ pre ++ rest → hostRun image words n (lastOr [] pre) cs ≡ plainRun fault full (length pre) cs
+  runs-agree : (cs : List Lent) (pre rest : List Record) → full ≡ pre ++ rest → hostRun image pattern n (lastOr [] pre) cs ≡ plainRun fault full (length pre) cs
   unfolding opened printedRecords
   runs-agree [] pre rest e = refl
   runs-agree (c ∷ cs) pre rest e =
-      let a : after (lastOr [] pre) full ≡ rest = rw e (after-seam pre rest (rw e at (full-sorted image words n)) (rw e at (full-not-empty image words n))) in
+      let a : after (lastOr [] pre) full ≡ rest = rw e (after-seam pre rest (rw e at (full-sorted image pattern n)) (rw e at (full-not-empty image pattern n))) in
       let d : drop (length pre) full ≡ rest = rw e (drop-append-seam pre rest) in
       let o : Outcome = outcome fault c rest in
       let out : List Record = printedRecords o in
@@ -119,9 +119,9 @@ module _ (image words : List ℕ) (n : ℕ) where
       let bookmark : lastOr (lastOr [] pre) (pageRecords types t) ≡ lastOr [] (pre ++ out) = ap (lastOr (lastOr [] pre)) (turn-shows c pre rest e) ∙ sym (lastOr-append [] pre out) in
       let number : length pre + printedCount o ≡ length (pre ++ out) = ap (λ (x : ℕ). length pre + x) (count-is o) ∙ sym (length-append pre out) in
       let ih = runs-agree cs (pre ++ out) (drop (length out) rest) (moved c pre rest e) in
-      rw (a, d) (ap (λ (l : List Turn). t ∷ l) (ap (λ (b : Record). hostRun image words n b cs) bookmark ∙ (ih ∙ ap (λ (k : ℕ). plainRun fault full k cs) (sym number))))
+      rw (a, d) (ap (λ (l : List Turn). t ∷ l) (ap (λ (b : Record). hostRun image pattern n b cs) bookmark ∙ (ih ∙ ap (λ (k : ℕ). plainRun fault full k cs) (sym number))))
 
-  pub demand-3 : (calls : List Lent) → hostRun image words n [] calls ≡ plainMachine image words n calls
+  pub demand-3 : (calls : List Lent) → hostRun image pattern n [] calls ≡ plainMachine image pattern n calls
   unfolding opened printedRecords
   demand-3 calls = runs-agree calls [] full refl
 
@@ -141,7 +141,7 @@ module _ (image words : List ℕ) (n : ℕ) where
       (ih .0, rw (d, number, turn-shows c pre rest e, append-assoc out shown (ih .0), ih .1) (outcome-begins fault c rest))
 
   -- nothing is printed twice and nothing passed over: the pages show a beginning of the full listing
-  pub pages-begin : (calls : List Lent) → (later : List Record) × (each (hostRun image words n [] calls) (pageRecords types) ++ later ≡ full)
+  pub pages-begin : (calls : List Lent) → (later : List Record) × (each (hostRun image pattern n [] calls) (pageRecords types) ++ later ≡ full)
   unfolding opened printedRecords
   pages-begin calls = let h = begins calls [] full refl in (h .0, ap (λ (l : List Turn). each l (pageRecords types) ++ h .0) (demand-3 calls) ∙ h .1)
 
@@ -176,6 +176,6 @@ module _ (image words : List ℕ) (n : ℕ) where
       go false q ih w = joined (recordsUntilDone types later) ih w
 
   -- up to the first page marked done, the records on the pages not refused are the full listing
-  pub pages-complete : (calls : List Lent) (l : List Record) → recordsUntilDone types (hostRun image words n [] calls) ≡ some l → l ≡ full
+  pub pages-complete : (calls : List Lent) (l : List Record) → recordsUntilDone types (hostRun image pattern n [] calls) ≡ some l → l ≡ full
   unfolding opened printedRecords
   pages-complete calls l h = until-done calls [] full refl l (rw (demand-3 calls) at h)

@@ -9,7 +9,7 @@ use lib.Dec.{eqb, ltb}
 use borrow.Author.Tests.{eqb-false, eqb-true, ltb-false, ltb-true}
 use Rattle.meaning.proofs.Logic.{no-none, no-some, no-true, some-inj}
 use Rattle.meaning.proofs.Opened.{opened}
-use Rattle.meaning.specs.Basics.{Cause, atRow, firstOf, lowest, whole}
+use Rattle.meaning.specs.Basics.{Cause, atRow, firstOf, lowest, rowless}
 
 pub lowest-none : (n i : ℕ) (f : ℕ → Bool) → lowest n i f ≡ none → (j : ℕ) → i ≤ j → j < i + n → f j ≡ false
 unfolding opened
@@ -57,7 +57,7 @@ unfolding opened
 first-none none c e = (refl, e)
 first-none (some x) c e = no-some e
 
-pub whole-none : (n : ℕ) (t : Bool) → whole n t ≡ none → t ≡ false
+pub whole-none : (n : ℕ) (t : Bool) → rowless n t ≡ none → t ≡ false
 unfolding opened
 whole-none n true e = no-some e
 whole-none n false e = refl

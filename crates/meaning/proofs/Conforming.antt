@@ -20,7 +20,7 @@ use Rattle.meaning.specs.Basics.{All, if_then_else_, orElse}
 use Rattle.meaning.specs.Graph.{Graph, Valid, Walk, len, theEdge, theNode}
 use Rattle.meaning.specs.Meaning.{Meaning, Product}
 use Rattle.meaning.specs.Pattern.{Pattern, Sound, concatenation, conditioned, edge, inCondition, inVar, named, node, repetition, union}
-use Rattle.meaning.specs.Typing.{Edge, Found, Group, Maybe, Node, Ty, Ty-discrete, absent, clash, concatenationTy, conditionedTy, fits, meet, namedTy, opt, repetitionTy, typeOf, typed, unionTy}
+use Rattle.meaning.specs.Typing.{Edge, Found, Group, Maybe, Node, Ty, Ty-discrete, absent, clash, concatenationTy, conditionedTy, fits, joinTy, namedTy, opt, repetitionTy, typeOf, typed, unionTy}
 
 -- a variable with a type is used
 used : (π : Pattern) (x : ℕ) {τ : Ty} → typeOf π x ≡ typed τ → inVar π x ≡ true
@@ -60,14 +60,14 @@ module _ (n m k : ℕ) where
       go true = (v, refl, o)
       go false = refl
 
-  meet-left : (τ σ : Ty) (d : Dec (τ ≡ σ)) (d₂ : Dec (σ ≡ Maybe τ)) (d₃ : Dec (τ ≡ Maybe σ)) (v : Value) → Of n m k τ v → Conforms n m k (meet τ σ d d₂ d₃) (some v)
+  meet-left : (τ σ : Ty) (d : Dec (τ ≡ σ)) (d₂ : Dec (σ ≡ Maybe τ)) (d₃ : Dec (τ ≡ Maybe σ)) (v : Value) → Of n m k τ v → Conforms n m k (joinTy τ σ d d₂ d₃) (some v)
   unfolding opened
   meet-left τ σ (yes p) d₂ d₃ v a = (v, refl, a)
   meet-left τ σ (no p) (yes q) d₃ v a = (v, refl, rw q (inr a))
   meet-left τ σ (no p) (no q) (yes r) v a = (v, refl, a)
   meet-left τ σ (no p) (no q) (no r) v a = tt
 
-  meet-right : (τ σ : Ty) (d : Dec (τ ≡ σ)) (d₂ : Dec (σ ≡ Maybe τ)) (d₃ : Dec (τ ≡ Maybe σ)) (v : Value) → Of n m k σ v → Conforms n m k (meet τ σ d d₂ d₃) (some v)
+  meet-right : (τ σ : Ty) (d : Dec (τ ≡ σ)) (d₂ : Dec (σ ≡ Maybe τ)) (d₃ : Dec (τ ≡ Maybe σ)) (v : Value) → Of n m k σ v → Conforms n m k (joinTy τ σ d d₂ d₃) (some v)
   unfolding opened
   meet-right τ σ (yes p) d₂ d₃ v a = (v, refl, rw p a)
   meet-right τ σ (no p) (yes q) d₃ v a = (v, refl, a)

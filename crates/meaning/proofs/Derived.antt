@@ -9,7 +9,7 @@ use Rattle.meaning.proofs.Logic.{and-l, and-r, no-false}
 use Rattle.meaning.proofs.Opened.{opened}
 use Rattle.meaning.proofs.Unused.{absent→unused, no-absent-typed, no-clash-typed, typed-inj}
 use Rattle.meaning.specs.Pattern.{Condition, Pattern, and, concatenation, conditioned, edge, equalsConstant, equalsProperty, inVar, named, neg, node, or, repetition, union}
-use Rattle.meaning.specs.Typing.{Edge, Fits, Found, Group, Has, Maybe, Node, Single, Ty, Ty-discrete, absent, clash, concatenationTy, conditionedTy, fits, fits-and, fits-constant, fits-neg, fits-or, fits-property, has-both, has-conditioned, has-edge, has-first, has-group, has-left, has-left-maybe, has-node, has-right, has-right-maybe, has-second, has-shared, meet, namedTy, one-edge, one-node, repetitionTy, single, typeOf, typed, unionTy}
+use Rattle.meaning.specs.Typing.{Edge, Fits, Found, Group, Has, Maybe, Node, Single, Ty, Ty-discrete, absent, clash, concatenationTy, conditionedTy, fits, fits-and, fits-constant, fits-neg, fits-or, fits-property, has-both, has-conditioned, has-edge, has-first, has-group, has-left, has-left-maybe, has-node, has-right, has-right-maybe, has-second, has-shared, joinTy, namedTy, one-edge, one-node, repetitionTy, single, typeOf, typed, unionTy}
 
 single-typed : (τ : Ty) → single (typed τ) ≡ true → Single τ
 unfolding opened
@@ -34,7 +34,7 @@ named→ (some y) x τ σ e = go (eqb y x) refl e
     go false q e = no-absent-typed e
 
 module _ (a b : Pattern) (x : ℕ) (ha : (τ : Ty) → typeOf a x ≡ typed τ → Has a x τ) (hb : (τ : Ty) → typeOf b x ≡ typed τ → Has b x τ) where
-  meet→ : (τ σ υ : Ty) → typeOf a x ≡ typed τ → typeOf b x ≡ typed σ → (d : Dec (τ ≡ σ)) (d₂ : Dec (σ ≡ Maybe τ)) (d₃ : Dec (τ ≡ Maybe σ)) → meet τ σ d d₂ d₃ ≡ typed υ → Has (union a b) x υ
+  meet→ : (τ σ υ : Ty) → typeOf a x ≡ typed τ → typeOf b x ≡ typed σ → (d : Dec (τ ≡ σ)) (d₂ : Dec (σ ≡ Maybe τ)) (d₃ : Dec (τ ≡ Maybe σ)) → joinTy τ σ d d₂ d₃ ≡ typed υ → Has (union a b) x υ
   unfolding opened
   meet→ τ σ υ p q (yes r) d₂ d₃ e = has-both (ha υ (p ∙ e)) (hb υ (q ∙ (ap typed (sym r) ∙ e)))
   meet→ τ σ υ p q (no n) (yes r) d₃ e = rw (← typed-inj e) (rw r (has-left-maybe (ha τ p) (hb (Maybe τ) (q ∙ ap typed r))))

@@ -22,7 +22,7 @@ pub data Listing : Type 0 where
 -- image, pattern and restrictor, the listing, the calls made and what they leave
 pub record Example : Type 0 where
   pub image : List ℕ
-  pub words : List ℕ
+  pub pattern : List ℕ
   pub restrictor : ℕ
   pub listing-is : Listing
   pub calls : List Lent
@@ -61,19 +61,19 @@ fills count used done page = record { result = 1; page = page; work = replicate 
 
 -- an example of which only the listing is told: one call with a page that holds it shows the same
 abbrev lists-only : List ℕ → List ℕ → ℕ → List Record → Example
-lists-only image words n records =
-    record { image = image; words = words; restrictor = n; listing-is = lists records; calls = page-of 40 ∷ []; leaves = fills (length records) (length (join records)) 1 (join records ++ replicate (40 - length (join records)) 9) ∷ [] }
+lists-only image pattern n records =
+    record { image = image; pattern = pattern; restrictor = n; listing-is = lists records; calls = page-of 40 ∷ []; leaves = fills (length records) (length (join records)) 1 (join records ++ replicate (40 - length (join records)) 9) ∷ [] }
 
 abbrev refuses-only : List ℕ → ℕ → ℕ → Example
-refuses-only words number row =
-    record { image = T; words = words; restrictor = 1; listing-is = refuses number row; calls = page-of 40 ∷ []; leaves = record { result = 1; page = replicate 40 9; work = replicate 20000 3; report = reportBytes number row 0 0 0 0 } ∷ [] }
+refuses-only pattern number row =
+    record { image = T; pattern = pattern; restrictor = 1; listing-is = refuses number row; calls = page-of 40 ∷ []; leaves = record { result = 1; page = replicate 40 9; work = replicate 20000 3; report = reportBytes number row 0 0 0 0 } ∷ [] }
 
 abbrev pub examples : List Example
 examples =
     -- T, P: the three records; pages of 10 words: one record each twice, then 23 needing 17
     record {
       image = T;
-      words = P;
+      pattern = P;
       restrictor = 1;
       listing-is = lists ((1 ∷ 0 ∷ 0 ∷ 1 ∷ 1 ∷ 1 ∷ 0 ∷ 0 ∷ 1 ∷ 0 ∷ []) ∷ (1 ∷ 1 ∷ 1 ∷ 2 ∷ 1 ∷ 1 ∷ 1 ∷ 1 ∷ 2 ∷ 1 ∷ []) ∷ (2 ∷ 0 ∷ 0 ∷ 1 ∷ 1 ∷ 2 ∷ 2 ∷ 1 ∷ 0 ∷ 0 ∷ 1 ∷ 0 ∷ 1 ∷ 1 ∷ 1 ∷ 2 ∷ 1 ∷ []) ∷ []);
       calls = page-of 10 ∷ page-of 10 ∷ page-of 10 ∷ [];
@@ -113,10 +113,10 @@ unfolding opened
 example-shortest = refl
 
 abbrev pub listing-of : Example → Listing
-listing-of x = elim (fixedFault (x .image) (x .words) (x .restrictor)) [ some c ↦ refuses (c .0) (c .1) | none ↦ lists (fullListing (x .image) (x .words) (x .restrictor)) ]
+listing-of x = elim (fixedFault (x .image) (x .pattern) (x .restrictor)) [ some c ↦ refuses (c .0) (c .1) | none ↦ lists (fullListing (x .image) (x .pattern) (x .restrictor)) ]
 
 abbrev pub computed : Example → Listing × List Left
-computed x = (listing-of x, map (λ t. t .left) (plainMachine (x .image) (x .words) (x .restrictor) (x .calls)))
+computed x = (listing-of x, map (λ t. t .left) (plainMachine (x .image) (x .pattern) (x .restrictor) (x .calls)))
 
 -- the table, as one theorem
 pub examples-hold : map computed examples ≡ map (λ x. (x .listing-is, x .leaves)) examples

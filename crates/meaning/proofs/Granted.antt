@@ -4,7 +4,7 @@ use mathlib.Core.List.{List, Memᴰ·of-map, [], _++_, _∷_, append-nil, map}
 use mathlib.Core.Option.{none, some}
 use mathlib.Core.Bool.{_&&_, false, not}
 use mathlib.Core.Logic.{_↔_}
-use Prim.Native.Nat.{_<_, _≤_, suc, zero, ℕ}
+use Prim.Native.Nat.{_<_, _≤_, ℕ}
 use native.Mathlib.Omega.{arith}
 use lib.Dec.{leb}
 use lib.ListN.{length, length-map}
@@ -23,7 +23,7 @@ use Rattle.meaning.proofs.Size.{record-size}
 use Rattle.meaning.proofs.Sorting.{sort→}
 use Rattle.meaning.specs.Answer.{Answer, Base, Restrictor, answers, longest, restrictorOf, simple, trail}
 use Rattle.meaning.specs.Assignment.{Assignment}
-use Rattle.meaning.specs.Basics.{All, Cause, _∈_, firstOf, upFrom, whole}
+use Rattle.meaning.specs.Basics.{All, Cause, _∈_, firstOf, upFrom, rowless}
 use Rattle.meaning.specs.FullListing.{fixedFault, fullListing, unlessRefused}
 use Rattle.meaning.specs.Graph.{Graph, Walk, len}
 use Rattle.meaning.specs.Image.{edgeCount, edgeRow, graphOf, imageFault}
@@ -34,9 +34,9 @@ use Rattle.meaning.specs.Table.{badLength, patternFault, patternOf, rows
 use Rattle.meaning.specs.Typing.{typeOf}
 
 -- the image and the pattern of a listing that nothing fixed refuses
-pub record Granted (image words : List ℕ) : Type 0 where
+pub record Granted (image pattern : List ℕ) : Type 0 where
   pub read : Read image
-  pub accepted : Accepted (patternOf words)
+  pub accepted : Accepted (patternOf pattern)
 
 some-row : (w : List ℕ) → badLength w ≡ false → 0 < length (rowsOf w)
 unfolding opened
@@ -47,50 +47,50 @@ some-row (a ∷ b ∷ c ∷ []) e = no-true e
 some-row (a ∷ b ∷ c ∷ d ∷ []) e = no-true e
 some-row (a ∷ b ∷ c ∷ d ∷ f ∷ w) e = omega arith
 
-pub pattern-accepted : (words : List ℕ) → patternFault words ≡ none → Accepted (patternOf words)
+pub pattern-accepted : (pattern : List ℕ) → patternFault pattern ≡ none → Accepted (patternOf pattern)
 unfolding opened
-pattern-accepted words e =
-    let p = first-none (whole 11 (badLength words)) (tableFault (rowsOf words)) e in
-    table-accepted (rowsOf words) (some-row words (whole-none 11 (badLength words) (p .0))) (p .1)
+pattern-accepted pattern e =
+    let p = first-none (rowless 11 (badLength pattern)) (tableFault (rowsOf pattern)) e in
+    table-accepted (rowsOf pattern) (some-row pattern (whole-none 11 (badLength pattern) (p .0))) (p .1)
 
-pub granted : (image words : List ℕ) (n : ℕ) → fixedFault image words n ≡ none → Granted image words
+pub granted : (image pattern : List ℕ) (n : ℕ) → fixedFault image pattern n ≡ none → Granted image pattern
 unfolding opened
-granted image words n e =
-    let last : Cause = whole 21 (not (leb 1 n && leb n 4)) in
-    let i = first-none (imageFault image) (firstOf (patternFault words) last) e in
-    let p = first-none (patternFault words) last (i .1) in
-    record { read = image-read image (i .0); accepted = pattern-accepted words (p .0) }
+granted image pattern n e =
+    let last : Cause = rowless 21 (not (leb 1 n && leb n 4)) in
+    let i = first-none (imageFault image) (firstOf (patternFault pattern) last) e in
+    let p = first-none (patternFault pattern) last (i .1) in
+    record { read = image-read image (i .0); accepted = pattern-accepted pattern (p .0) }
 
 unless-none : (c : Cause) (l : List Record) → c ≡ none → unlessRefused c l ≡ l
 unfolding opened
 unless-none c l e = ap (λ (x : Cause). unlessRefused x l) e
 
-module _ (image words : List ℕ) (n : ℕ) (ok : fixedFault image words n ≡ none) where
-  listing-is : fullListing image words n ≡ listing (graphOf image) (restrictorOf n) (patternOf words)
+module _ (image pattern : List ℕ) (n : ℕ) (ok : fixedFault image pattern n ≡ none) where
+  listing-is : fullListing image pattern n ≡ listing (graphOf image) (restrictorOf n) (patternOf pattern)
   unfolding opened
-  listing-is = unless-none (fixedFault image words n) (listing (graphOf image) (restrictorOf n) (patternOf words)) ok
+  listing-is = unless-none (fixedFault image pattern n) (listing (graphOf image) (restrictorOf n) (patternOf pattern)) ok
 
-  pub members : (r : Record) → (r ∈ fullListing image words n) ↔ Listed (graphOf image) (restrictorOf n) (patternOf words) r
+  pub members : (r : Record) → (r ∈ fullListing image pattern n) ↔ Listed (graphOf image) (restrictorOf n) (patternOf pattern) r
   unfolding opened
   members r =
-      let g = granted image words n ok in
-      let h = listing-iff (graphOf image) (g .read .valid) (patternOf words) (g .accepted .sound) (restrictorOf n) r in
+      let g = granted image pattern n ok in
+      let h = listing-iff (graphOf image) (g .read .valid) (patternOf pattern) (g .accepted .sound) (restrictorOf n) r in
       ((λ m. h .0 (rw listing-is at m)), (λ l. rw listing-is (h .1 l)))
 
   -- any strictly rising list with these members is the full listing
-  pub unique : (l : List Record) → Sorted l → ((r : Record) → (r ∈ l) ↔ Listed (graphOf image) (restrictorOf n) (patternOf words) r) → l ≡ fullListing image words n
+  pub unique : (l : List Record) → Sorted l → ((r : Record) → (r ∈ l) ↔ Listed (graphOf image) (restrictorOf n) (patternOf pattern) r) → l ≡ fullListing image pattern n
   unfolding opened
   unique l s h =
-      let g = granted image words n ok in
-      listing-unique (graphOf image) (g .read .valid) (patternOf words) (g .accepted .sound) (restrictorOf n) l s h ∙ sym listing-is
+      let g = granted image pattern n ok in
+      listing-unique (graphOf image) (g .read .valid) (patternOf pattern) (g .accepted .sound) (restrictorOf n) l s h ∙ sym listing-is
 
   few-nodes : graphOf image .nodes ≤ 200
   unfolding opened
-  few-nodes = granted image words n ok .read .few-nodes
+  few-nodes = granted image pattern n ok .read .few-nodes
 
   few-edges : length (graphOf image .edges) ≤ 200
   unfolding opened
-  few-edges = let g : edgeCount image ≤ 200 = granted image words n ok .read .few-edges in omega (arith, length-map (upFrom (edgeCount image) 0) (edgeRow image), length-up (edgeCount image) 0)
+  few-edges = let g : edgeCount image ≤ 200 = granted image pattern n ok .read .few-edges in omega (arith, length-map (upFrom (edgeCount image) 0) (edgeRow image), length-up (edgeCount image) 0)
 
   longest-few : (ρ : Base) → longest ρ (graphOf image) ≤ 200
   unfolding opened
@@ -98,51 +98,51 @@ module _ (image words : List ℕ) (n : ℕ) (ok : fixedFault image words n ≡ n
   longest-few simple = few-nodes
 
   -- an answer's path has at most 200 edges
-  pub path-few : (p : Walk) (μ : Assignment) → Answer (graphOf image) (restrictorOf n) (patternOf words) p μ → len p ≤ 200
+  pub path-few : (p : Walk) (μ : Assignment) → Answer (graphOf image) (restrictorOf n) (patternOf pattern) p μ → len p ≤ 200
   unfolding opened
   path-few p μ a =
-      let g = granted image words n ok in
+      let g = granted image pattern n ok in
       let ρ : Base = restrictorOf n .base in
-      let k = short (graphOf image) ρ p (in-graph (graphOf image) (g .read .valid) (patternOf words) p μ (a .base-answer .means)) (a .base-answer .restricted) in
+      let k = short (graphOf image) ρ p (in-graph (graphOf image) (g .read .valid) (patternOf pattern) p μ (a .base-answer .means)) (a .base-answer .restricted) in
       omega (arith, longest-few ρ, k)
 
-  pub no-longer : (r : Record) → r ∈ fullListing image words n → length r ≤ 20000
+  pub no-longer : (r : Record) → r ∈ fullListing image pattern n → length r ≤ 20000
   unfolding opened
   no-longer r m =
-      let g = granted image words n ok in
+      let g = granted image pattern n ok in
       let h = members r .0 m in
-      let k = record-size (graphOf image) (patternOf words) (g .accepted .sound) (g .accepted .shallow) (h .path) (h .assignment) (h .answer .base-answer .means) (path-few (h .path) (h .assignment) (h .answer)) in
+      let k = record-size (graphOf image) (patternOf pattern) (g .accepted .sound) (g .accepted .shallow) (h .path) (h .assignment) (h .answer .base-answer .means) (path-few (h .path) (h .assignment) (h .answer)) in
       rw (h .record-is) k
 
   -- records followed by words: what follows is the same where the whole is, so no record begins another
-  pub records-part : (r s : Record) → r ∈ fullListing image words n → s ∈ fullListing image words n → (x y : List ℕ) → r ++ x ≡ s ++ y → x ≡ y
+  pub records-part : (r s : Record) → r ∈ fullListing image pattern n → s ∈ fullListing image pattern n → (x y : List ℕ) → r ++ x ≡ s ++ y → x ≡ y
   unfolding opened
   records-part r s m l x y e =
-      let g = granted image words n ok in
+      let g = granted image pattern n ok in
       let h = members r .0 m in
       let k = members s .0 l in
-      one-way (graphOf image) (g .read .valid) (patternOf words) (g .accepted) 200 (omega (arith, few-nodes)) (omega (arith, few-edges)) (omega arith)
+      one-way (graphOf image) (g .read .valid) (patternOf pattern) (g .accepted) 200 (omega (arith, few-nodes)) (omega (arith, few-edges)) (omega arith)
       (h .path) (k .path) (h .assignment) (k .assignment) (h .answer .base-answer .means) (k .answer .base-answer .means) (path-few (h .path) (h .assignment) (h .answer)) (path-few (k .path) (k .assignment) (k .answer)) x y
       (sym (ap (λ (l : List ℕ). l ++ x) (h .record-is)) ∙ (e ∙ ap (λ (l : List ℕ). l ++ y) (k .record-is)))
 
-  pub none-begins : (r s : Record) → r ∈ fullListing image words n → s ∈ fullListing image words n → (x : List ℕ) → r ++ x ≡ s → x ≡ []
+  pub none-begins : (r s : Record) → r ∈ fullListing image pattern n → s ∈ fullListing image pattern n → (x : List ℕ) → r ++ x ≡ s → x ≡ []
   unfolding opened
   none-begins r s m l x e = records-part r s m l x [] (e ∙ sym (append-nil s))
 
   -- two answers with one record: the same path, and the same value at every variable
-  pub same-record : (p q : Walk) (μ ν : Assignment) → Answer (graphOf image) (restrictorOf n) (patternOf words) p μ → Answer (graphOf image) (restrictorOf n) (patternOf words) q ν → recordOf p μ ≡ recordOf q ν → (p ≡ q) × ((x : ℕ) → μ x ≡ ν x)
+  pub same-record : (p q : Walk) (μ ν : Assignment) → Answer (graphOf image) (restrictorOf n) (patternOf pattern) p μ → Answer (graphOf image) (restrictorOf n) (patternOf pattern) q ν → recordOf p μ ≡ recordOf q ν → (p ≡ q) × ((x : ℕ) → μ x ≡ ν x)
   unfolding opened
   same-record p q μ ν a b e =
-      let g = granted image words n ok in
-      same-answer (graphOf image) (g .read .valid) (patternOf words) (g .accepted) 200 (omega (arith, few-nodes)) (omega (arith, few-edges)) (omega arith) p q μ ν (a .base-answer .means) (b .base-answer .means) (path-few p μ a) (path-few q ν b) e
+      let g = granted image pattern n ok in
+      same-answer (graphOf image) (g .read .valid) (patternOf pattern) (g .accepted) 200 (omega (arith, few-nodes)) (omega (arith, few-edges)) (omega arith) p q μ ν (a .base-answer .means) (b .base-answer .means) (path-few p μ a) (path-few q ν b) e
 
   -- every record is read off words that begin with it
-  pub readable : (r : Record) → r ∈ fullListing image words n → Readable (typeOf (patternOf words)) r
+  pub readable : (r : Record) → r ∈ fullListing image pattern n → Readable (typeOf (patternOf pattern)) r
   unfolding opened
   readable r m =
-      let g = granted image words n ok in
+      let g = granted image pattern n ok in
       let h = members r .0 m in
-      rw (h .record-is) (answer-readable (graphOf image) (g .read .valid) (patternOf words) (g .accepted) 200 (omega (arith, few-nodes)) (omega (arith, few-edges)) (omega arith) (h .path) (h .assignment) (h .answer .base-answer .means) (path-few (h .path) (h .assignment) (h .answer)))
+      rw (h .record-is) (answer-readable (graphOf image) (g .read .valid) (patternOf pattern) (g .accepted) 200 (omega (arith, few-nodes)) (omega (arith, few-edges)) (omega arith) (h .path) (h .assignment) (h .answer .base-answer .means) (path-few (h .path) (h .assignment) (h .answer)))
 
 -- ------------------------------------------------------------------ for every image, pattern and restrictor, refused or not
 unless-all : (P : List Record → Type 0) (c : Cause) (l : List Record) → P [] → (c ≡ none → P l) → P (unlessRefused c l)
@@ -150,14 +150,14 @@ unfolding opened
 unless-all P none l h k = k refl
 unless-all P (some a) l h k = h
 
-pub full-sorted : (image words : List ℕ) (n : ℕ) → Sorted (fullListing image words n)
+pub full-sorted : (image pattern : List ℕ) (n : ℕ) → Sorted (fullListing image pattern n)
 unfolding opened
-full-sorted image words n = unless-all Sorted (fixedFault image words n) (listing (graphOf image) (restrictorOf n) (patternOf words)) tt (λ e. listing-sorted (graphOf image) (restrictorOf n) (patternOf words))
+full-sorted image pattern n = unless-all Sorted (fixedFault image pattern n) (listing (graphOf image) (restrictorOf n) (patternOf pattern)) tt (λ e. listing-sorted (graphOf image) (restrictorOf n) (patternOf pattern))
 
 -- where something fixed is refused the listing is empty
-pub refused-empty : (image words : List ℕ) (n : ℕ) (c : ℕ × ℕ) → fixedFault image words n ≡ some c → fullListing image words n ≡ []
+pub refused-empty : (image pattern : List ℕ) (n : ℕ) (c : ℕ × ℕ) → fixedFault image pattern n ≡ some c → fullListing image pattern n ≡ []
 unfolding opened
-refused-empty image words n c e = ap (λ (x : Cause). unlessRefused x (listing (graphOf image) (restrictorOf n) (patternOf words))) e
+refused-empty image pattern n c e = ap (λ (x : Cause). unlessRefused x (listing (graphOf image) (restrictorOf n) (patternOf pattern))) e
 
 not-empty : (G : Graph) (ρ : Restrictor) (π : Pattern) → All (Before []) (listing G ρ π)
 unfolding opened
@@ -165,14 +165,14 @@ not-empty G ρ π = all-of (Before []) (listing G ρ π) (λ r m.
     let w = Memᴰ·of-map answerRecord (answers G ρ π) (sort→ (map answerRecord (answers G ρ π)) m) in
     rw (← w .2) refl)
 
-pub full-not-empty : (image words : List ℕ) (n : ℕ) → All (Before []) (fullListing image words n)
+pub full-not-empty : (image pattern : List ℕ) (n : ℕ) → All (Before []) (fullListing image pattern n)
 unfolding opened
-full-not-empty image words n = unless-all (All (Before [])) (fixedFault image words n) (listing (graphOf image) (restrictorOf n) (patternOf words)) tt (λ e. not-empty (graphOf image) (restrictorOf n) (patternOf words))
+full-not-empty image pattern n = unless-all (All (Before [])) (fixedFault image pattern n) (listing (graphOf image) (restrictorOf n) (patternOf pattern)) tt (λ e. not-empty (graphOf image) (restrictorOf n) (patternOf pattern))
 
-pub full-readable : (image words : List ℕ) (n : ℕ) → All (Readable (typeOf (patternOf words))) (fullListing image words n)
+pub full-readable : (image pattern : List ℕ) (n : ℕ) → All (Readable (typeOf (patternOf pattern))) (fullListing image pattern n)
 unfolding opened
-full-readable image words n = go (fixedFault image words n) refl
+full-readable image pattern n = go (fixedFault image pattern n) refl
   where
-    go : (c : Cause) → fixedFault image words n ≡ c → All (Readable (typeOf (patternOf words))) (fullListing image words n)
-    go none e = all-of (Readable (typeOf (patternOf words))) (fullListing image words n) (readable image words n e)
-    go (some c) e = rw (refused-empty image words n c e) tt
+    go : (c : Cause) → fixedFault image pattern n ≡ c → All (Readable (typeOf (patternOf pattern))) (fullListing image pattern n)
+    go none e = all-of (Readable (typeOf (patternOf pattern))) (fullListing image pattern n) (readable image pattern n e)
+    go (some c) e = rw (refused-empty image pattern n c e) tt

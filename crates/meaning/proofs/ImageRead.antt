@@ -12,7 +12,7 @@ use Rattle.meaning.proofs.Causes.{atRow-none, first-none, lowest-none, 
 use Rattle.meaning.proofs.Logic.{and-l, and-r, no-some, no-true, not-false, some-inj}
 use Rattle.meaning.proofs.Opened.{opened}
 use Rattle.meaning.specs.Assignment.{one}
-use Rattle.meaning.specs.Basics.{Cause, atRow, firstOf, lowest, upFrom, whole}
+use Rattle.meaning.specs.Basics.{Cause, atRow, firstOf, lowest, upFrom, rowless}
 use Rattle.meaning.specs.Graph.{EdgeRow, Valid}
 use Rattle.meaning.specs.Image.{badEdge, badLabel, badNode, badProperty, edgeCell, edgeCount, edgeRow, goodDirectory, graphOf, imageFault, labelCount, nodeCount, propertyCount, rowFault, tooMany}
 
@@ -23,19 +23,19 @@ at-map f (suc n) i zero r q = (omega arith, sym (some-inj q) ∙ ap f (omega ari
 at-map f (suc n) i (suc e) r q = let h = at-map f n (suc i) e r q in (omega (arith, h .0), h .1 ∙ ap f (omega arith))
 
 -- what an accepted image is: a valid graph within the bounds of 01
-pub record Read (b : List ℕ) : Type 0 where
-  pub valid : Valid (graphOf b)
-  pub few-nodes : nodeCount b ≤ 200
-  pub few-edges : edgeCount b ≤ 200
-  pub few-labels : labelCount b ≤ 800
-  pub few-properties : propertyCount b ≤ 2000
+pub record Read (image : List ℕ) : Type 0 where
+  pub valid : Valid (graphOf image)
+  pub few-nodes : nodeCount image ≤ 200
+  pub few-edges : edgeCount image ≤ 200
+  pub few-labels : labelCount image ≤ 800
+  pub few-properties : propertyCount image ≤ 2000
 
-good-edge : (b : List ℕ) (i : ℕ) → badEdge b i ≡ false → (edgeCell b i 0 < nodeCount b) × (edgeCell b i 1 < nodeCount b)
+good-edge : (image : List ℕ) (i : ℕ) → badEdge image i ≡ false → (edgeCell image i 0 < nodeCount image) × (edgeCell image i 1 < nodeCount image)
 unfolding opened
-good-edge b i e =
-    let h = not-false ((ltb (edgeCell b i 0) (nodeCount b) && ltb (edgeCell b i 1) (nodeCount b)) && (eqb (edgeCell b i 2) 1 || (eqb (edgeCell b i 2) 0 && leb (edgeCell b i 0) (edgeCell b i 1)))) e in
-    let k = and-l (ltb (edgeCell b i 0) (nodeCount b) && ltb (edgeCell b i 1) (nodeCount b)) (eqb (edgeCell b i 2) 1 || (eqb (edgeCell b i 2) 0 && leb (edgeCell b i 0) (edgeCell b i 1))) h in
-    (ltb-true (edgeCell b i 0) (nodeCount b) (and-l (ltb (edgeCell b i 0) (nodeCount b)) (ltb (edgeCell b i 1) (nodeCount b)) k), ltb-true (edgeCell b i 1) (nodeCount b) (and-r (ltb (edgeCell b i 0) (nodeCount b)) (ltb (edgeCell b i 1) (nodeCount b)) k))
+good-edge image i e =
+    let h = not-false ((ltb (edgeCell image i 0) (nodeCount image) && ltb (edgeCell image i 1) (nodeCount image)) && (eqb (edgeCell image i 2) 1 || (eqb (edgeCell image i 2) 0 && leb (edgeCell image i 0) (edgeCell image i 1)))) e in
+    let k = and-l (ltb (edgeCell image i 0) (nodeCount image) && ltb (edgeCell image i 1) (nodeCount image)) (eqb (edgeCell image i 2) 1 || (eqb (edgeCell image i 2) 0 && leb (edgeCell image i 0) (edgeCell image i 1))) h in
+    (ltb-true (edgeCell image i 0) (nodeCount image) (and-l (ltb (edgeCell image i 0) (nodeCount image)) (ltb (edgeCell image i 1) (nodeCount image)) k), ltb-true (edgeCell image i 1) (nodeCount image) (and-r (ltb (edgeCell image i 0) (nodeCount image)) (ltb (edgeCell image i 1) (nodeCount image)) k))
 
 few : (a b c d : Bool) → not ((a && b) && (c && d)) ≡ false → (a ≡ true) × (b ≡ true) × (c ≡ true) × (d ≡ true)
 unfolding opened
@@ -45,22 +45,22 @@ few true true false d e = no-true e
 few true false c d e = no-true e
 few false b c d e = no-true e
 
-pub image-read : (b : List ℕ) → imageFault b ≡ none → Read b
+pub image-read : (image : List ℕ) → imageFault image ≡ none → Read image
 unfolding opened
-image-read b e =
-    let c₆ : Cause = firstOf (atRow 6 (lowest (labelCount b) 0 (badLabel b))) (atRow 7 (lowest (propertyCount b) 0 (badProperty b))) in
-    let c₅ : Cause = firstOf (atRow 5 (lowest (edgeCount b) 0 (badEdge b))) c₆ in
-    let one = first-none (whole 1 (ltb (length b) 16)) (firstOf (whole 2 (not (goodDirectory b))) (firstOf (whole 3 (tooMany b)) (rowFault b))) e in
-    let two = first-none (whole 2 (not (goodDirectory b))) (firstOf (whole 3 (tooMany b)) (rowFault b)) (one .1) in
-    let three = first-none (whole 3 (tooMany b)) (rowFault b) (two .1) in
-    let four = first-none (atRow 4 (lowest (nodeCount b) 0 (badNode b))) c₅ (three .1) in
-    let five = first-none (atRow 5 (lowest (edgeCount b) 0 (badEdge b))) c₆ (four .1) in
-    let edges = lowest-none (edgeCount b) 0 (badEdge b) (atRow-none 5 (lowest (edgeCount b) 0 (badEdge b)) (five .0)) in
-    let f = few (leb (nodeCount b) 200) (leb (edgeCount b) 200) (leb (labelCount b) 800) (leb (propertyCount b) 2000) (whole-none 3 (tooMany b) (three .0)) in
+image-read image e =
+    let c₆ : Cause = firstOf (atRow 6 (lowest (labelCount image) 0 (badLabel image))) (atRow 7 (lowest (propertyCount image) 0 (badProperty image))) in
+    let c₅ : Cause = firstOf (atRow 5 (lowest (edgeCount image) 0 (badEdge image))) c₆ in
+    let one = first-none (rowless 1 (ltb (length image) 16)) (firstOf (rowless 2 (not (goodDirectory image))) (firstOf (rowless 3 (tooMany image)) (rowFault image))) e in
+    let two = first-none (rowless 2 (not (goodDirectory image))) (firstOf (rowless 3 (tooMany image)) (rowFault image)) (one .1) in
+    let three = first-none (rowless 3 (tooMany image)) (rowFault image) (two .1) in
+    let four = first-none (atRow 4 (lowest (nodeCount image) 0 (badNode image))) c₅ (three .1) in
+    let five = first-none (atRow 5 (lowest (edgeCount image) 0 (badEdge image))) c₆ (four .1) in
+    let edges = lowest-none (edgeCount image) 0 (badEdge image) (atRow-none 5 (lowest (edgeCount image) 0 (badEdge image)) (five .0)) in
+    let f = few (leb (nodeCount image) 200) (leb (edgeCount image) 200) (leb (labelCount image) 800) (leb (propertyCount image) 2000) (whole-none 3 (tooMany image) (three .0)) in
     record {
-      valid = λ i r q. let h = at-map (edgeRow b) (edgeCount b) 0 i r q in let k = good-edge b (0 + i) (edges (0 + i) (omega arith) (omega (arith, h .0))) in rw (h .1) k;
-      few-nodes = leb-true (nodeCount b) 200 (f .0);
-      few-edges = leb-true (edgeCount b) 200 (f .1);
-      few-labels = leb-true (labelCount b) 800 (f .2);
-      few-properties = leb-true (propertyCount b) 2000 (f .3);
+      valid = λ i r q. let h = at-map (edgeRow image) (edgeCount image) 0 i r q in let k = good-edge image (0 + i) (edges (0 + i) (omega arith) (omega (arith, h .0))) in rw (h .1) k;
+      few-nodes = leb-true (nodeCount image) 200 (f .0);
+      few-edges = leb-true (edgeCount image) 200 (f .1);
+      few-labels = leb-true (labelCount image) 800 (f .2);
+      few-properties = leb-true (propertyCount image) 2000 (f .3);
     }

@@ -33,10 +33,10 @@ unfolding opened
 one-of← r (List·Memᴰ·head {x = s} {xs = l} e) = or-l (not (before r s) && not (before s r)) (isOneOf r l) (rw e (neither s))
 one-of← r (List·Memᴰ·tail {x = s} {xs = l} m) = or-r (not (before r s) && not (before s r)) (isOneOf r l) (one-of← r m)
 
-pub judged : (image words : List ℕ) (n : ℕ) (r : Record) → (judge image words n r ≡ true) ↔ (r ∈ fullListing image words n)
+pub judged : (image pattern : List ℕ) (n : ℕ) (r : Record) → (judge image pattern n r ≡ true) ↔ (r ∈ fullListing image pattern n)
 unfolding opened
-judged image words n r = (one-of→ r (fullListing image words n), one-of← r)
+judged image pattern n r = (one-of→ r (fullListing image pattern n), one-of← r)
 
-pub judged-answer : (image words : List ℕ) (n : ℕ) → fixedFault image words n ≡ none → (r : Record) → (judge image words n r ≡ true) ↔ Listed (graphOf image) (restrictorOf n) (patternOf words) r
+pub judged-answer : (image pattern : List ℕ) (n : ℕ) → fixedFault image pattern n ≡ none → (r : Record) → (judge image pattern n r ≡ true) ↔ Listed (graphOf image) (restrictorOf n) (patternOf pattern) r
 unfolding opened
-judged-answer image words n ok r = ((λ e. members image words n ok r .0 (judged image words n r .0 e)), (λ h. judged image words n r .1 (members image words n ok r .1 h)))
+judged-answer image pattern n ok r = ((λ e. members image pattern n ok r .0 (judged image pattern n r .0 e)), (λ h. judged image pattern n r .1 (members image pattern n ok r .1 h)))

@@ -1,8 +1,7 @@
 -- Taking and dropping around the seam of two lists; the length of a run of numbers.
 use mathlib.Core.Path.{_∙_, _≡_, ap, refl, sym}
-use mathlib.Core.List.{List, [], _++_, _∷_}
-use Prim.Native.Nat.{_+_, suc, zero, ℕ}
-use native.Mathlib.Omega.{arith}
+use mathlib.Core.List.{List, _++_}
+use Prim.Native.Nat.{suc, zero, ℕ}
 use lib.ListN.{drop, length, take}
 use lib.Seq.{drop-append-seam, take-append-seam}
 use Rattle.meaning.proofs.Opened.{opened}

@@ -9,7 +9,7 @@ use lib.ListN.{drop, length}
 use Rattle.meaning.proofs.Logic.{no-false}
 use Rattle.meaning.proofs.Opened.{opened}
 use Rattle.meaning.proofs.Reading.{Readable, records-read}
-use Rattle.meaning.specs.Basics.{All, Cause, firstOf, if_then_else_, whole}
+use Rattle.meaning.specs.Basics.{All, Cause, firstOf, if_then_else_, rowless}
 use Rattle.meaning.specs.Machine.{isDone, pageRecords, printedCount}
 use Rattle.meaning.specs.Page.{Lent, Outcome, filled, fit, isEmpty, join, left, needs, outcome, printed, printing, refused, unanswered, unlessFault}
 use Rattle.meaning.specs.Record.{Record}
@@ -60,8 +60,8 @@ pub outcome-begins : (fault : Cause) (c : Lent) (rest : List Record) → printed
 unfolding opened printedRecords
 outcome-begins fault c rest = go (wideEnough (c .report))
   where
-    go : (b : Bool) → Begins (if b then unlessFault (firstOf fault (whole 22 (ltb (length (c .work)) 20000))) (filled (length (c .page)) rest) else unanswered) rest
-    go true = unless-begins (firstOf fault (whole 22 (ltb (length (c .work)) 20000))) (length (c .page)) rest
+    go : (b : Bool) → Begins (if b then unlessFault (firstOf fault (rowless 22 (ltb (length (c .work)) 20000))) (filled (length (c .page)) rest) else unanswered) rest
+    go true = unless-begins (firstOf fault (rowless 22 (ltb (length (c .work)) 20000))) (length (c .page)) rest
     go false = refl
 
 -- ------------------------------------------------------------------ done: all of what is left
@@ -94,8 +94,8 @@ pub outcome-done : (fault : Cause) (c : Lent) (rest : List Record) → isDone (o
 unfolding opened printedRecords
 outcome-done fault c rest = go (wideEnough (c .report))
   where
-    go : (b : Bool) → All-if-done (if b then unlessFault (firstOf fault (whole 22 (ltb (length (c .work)) 20000))) (filled (length (c .page)) rest) else unanswered) rest
-    go true = unless-done (firstOf fault (whole 22 (ltb (length (c .work)) 20000))) (length (c .page)) rest
+    go : (b : Bool) → All-if-done (if b then unlessFault (firstOf fault (rowless 22 (ltb (length (c .work)) 20000))) (filled (length (c .page)) rest) else unanswered) rest
+    go true = unless-done (firstOf fault (rowless 22 (ltb (length (c .work)) 20000))) (length (c .page)) rest
     go false = λ e. no-false e
 
 -- ------------------------------------------------------------------ what the page shows

@@ -15,7 +15,7 @@ use Rattle.meaning.proofs.Opened.{opened}
 use Rattle.meaning.proofs.Size.{length-places, size}
 use Rattle.meaning.proofs.Words.{only-nothing}
 use Rattle.meaning.specs.Assignment.{AllOf, Assignment, Conforms, Entries, Of, Value, count, entry, group, no-entry, nothing, one}
-use Rattle.meaning.specs.Basics.{All, eight, if_then_else_, whole}
+use Rattle.meaning.specs.Basics.{All, eight, if_then_else_, rowless}
 use Rattle.meaning.specs.Graph.{Walk}
 use Rattle.meaning.specs.Page.{join}
 use Rattle.meaning.specs.Record.{Record, elementWord, entriesWords, groupSize, pathSize, pathWords, recordOf, recordSize, recordsIn, slotSize, slotWords, valueSize, valueWords, variableWords, variablesSize}
@@ -50,8 +50,8 @@ module _ (n m k : ℕ) (hn : n < 65535) (hm : m < 65535) (hk : k < 65535) where
       let q : size ≡ length (pathWords p) + length (valueWords v) = omega (arith, i, j) in
       let rest : drop size w ≡ e ++ s = ap (λ (x : ℕ). drop x w) q ∙ (drop-append-add (pathWords p) (valueWords v ++ (e ++ s)) (length (valueWords v)) ∙ drop-front (length (valueWords v)) (valueWords v) (e ++ s) refl) in
       let ih : groupSize (valueSize τ) (count g) (drop size w) ≡ length e = ap (groupSize (valueSize τ) (count g)) rest ∙ group-size τ f g s (a .1) in
-      let whole : length (pathWords p ++ (valueWords v ++ e)) ≡ length (pathWords p) + (length (valueWords v) + length e) = length-append (pathWords p) (valueWords v ++ e) ∙ ap (λ (x : ℕ). length (pathWords p) + x) (length-append (valueWords v) e) in
-      ap (groupSize (valueSize τ) (suc (count g))) is ∙ omega (arith, q, ih, whole)
+      let rowless : length (pathWords p ++ (valueWords v ++ e)) ≡ length (pathWords p) + (length (valueWords v) + length e) = length-append (pathWords p) (valueWords v ++ e) ∙ ap (λ (x : ℕ). length (pathWords p) + x) (length-append (valueWords v) e) in
+      ap (groupSize (valueSize τ) (suc (count g))) is ∙ omega (arith, q, ih, rowless)
 
   value-size : (τ : Ty) → Sized τ
   unfolding opened

@@ -11,22 +11,22 @@ use lib.Seq.{getD-at}
 use borrow.Author.Tests.{eqb-false, eqb-true, ltb-true}
 use Rattle.meaning.proofs.Logic.{and-l, and-r}
 use Rattle.meaning.proofs.Opened.{opened}
-use Rattle.meaning.specs.Table.{Form, Item, Row, conditionForm, conditionRow, fine, formAt, isAnd, isBad, isConcatenation, isConditioned, isConstant, isEdge, isNode, isNot, isOr, isProperty, isRepetition, isUnion, itemAt, lower, make, nil, patternForm, patternRow}
+use Rattle.meaning.specs.Table.{Form, Item, Row, conditionForm, conditionRow, fine, formAt, isAnd, isBad, isConcatenation, isConditioned, isConstant, isEdge, isNode, isNot, isOr, isProperty, isRepetition, isUnion, itemAt, lower, make, noItem, patternForm, patternRow}
 
 module _ (t : List Row) where
   length-lower : (i : ℕ) → length (lower t i) ≡ i
   unfolding opened
   length-lower zero = refl
-  length-lower (suc i) = length-append (lower t i) (make (λ j. getD (lower t i) j nil) (formAt t i) ∷ []) ∙ omega (arith, length-lower i)
+  length-lower (suc i) = length-append (lower t i) (make (λ j. getD (lower t i) j noItem) (formAt t i) ∷ []) ∙ omega (arith, length-lower i)
 
-  lower-get : (i p : ℕ) → p < i → getD (lower t i) p nil ≡ itemAt t p
+  lower-get : (i p : ℕ) → p < i → getD (lower t i) p noItem ≡ itemAt t p
   unfolding opened
   lower-get zero p h = absurd (omega arith)
   lower-get (suc i) p h = go (eqb p i) refl (lower-get i p)
     where
-      go : (b : Bool) → eqb p i ≡ b → (p < i → getD (lower t i) p nil ≡ itemAt t p) → getD (lower t i ++ (itemAt t i ∷ [])) p nil ≡ itemAt t p
-      go true e ih = rw (eqb-true p i e) (getD-at (lower t i) (itemAt t i) [] nil i (length-lower i))
-      go false e ih = let q : p ≢ i = eqb-false p i e in let k : p < i = omega arith in List·getD-append (lower t i) (itemAt t i ∷ []) nil p (omega (arith, length-lower i)) ∙ ih k
+      go : (b : Bool) → eqb p i ≡ b → (p < i → getD (lower t i) p noItem ≡ itemAt t p) → getD (lower t i ++ (itemAt t i ∷ [])) p noItem ≡ itemAt t p
+      go true e ih = rw (eqb-true p i e) (getD-at (lower t i) (itemAt t i) [] noItem i (length-lower i))
+      go false e ih = let q : p ≢ i = eqb-false p i e in let k : p < i = omega arith in List·getD-append (lower t i) (itemAt t i ∷ []) noItem p (omega (arith, length-lower i)) ∙ ih k
 
   pub pattern-below : (i p : ℕ) → patternRow t i p ≡ true → p < i
   unfolding opened
@@ -53,7 +53,7 @@ module _ (t : List Row) where
 
   pub item-is : (i : ℕ) → fine t i (formAt t i) ≡ true → itemAt t i ≡ make (itemAt t) (formAt t i)
   unfolding opened
-  item-is i e = make-same i (λ j. getD (lower t i) j nil) (itemAt t) (lower-get i) (formAt t i) e
+  item-is i e = make-same i (λ j. getD (lower t i) j noItem) (itemAt t) (lower-get i) (formAt t i) e
 
   -- ---------------- a fact of every row, from the rows below it
   module _ (P : Item → Type 0) (ok : (i : ℕ) → i < length t → fine t i (formAt t i) ≡ true)

@@ -19,10 +19,10 @@ abbrev labelled-graph : List ℕ
 labelled-graph = low-first (16 ∷ 6 ∷ 22 ∷ 24 ∷ 46 ∷ 12 ∷ 58 ∷ 24 ∷ 10 ∷ 20 ∷ 30 ∷ 0 ∷ 1 ∷ 1 ∷ 1 ∷ 2 ∷ 1 ∷ 0 ∷ 2 ∷ 0 ∷ 1 ∷ 1 ∷ 1 ∷ 0 ∷ 1 ∷ 1 ∷ 2 ∷ 3 ∷ 1 ∷ 0 ∷ 7 ∷ 5 ∷ 1 ∷ 7 ∷ 5 ∷ 2 ∷ 7 ∷ 6 ∷ 4 ∷ 8 ∷ 5 ∷ [])
 
 abbrev lists-case : List ℕ → List ℕ → ℕ → List Record → Example
-lists-case image words n records = record { image = image; words = words; restrictor = n; listing-is = lists records; calls = []; leaves = [] }
+lists-case image pattern n records = record { image = image; pattern = pattern; restrictor = n; listing-is = lists records; calls = []; leaves = [] }
 
 abbrev refuses-case : List ℕ → List ℕ → ℕ → ℕ → ℕ → Example
-refuses-case image words n number row = record { image = image; words = words; restrictor = n; listing-is = refuses number row; calls = []; leaves = [] }
+refuses-case image pattern n number row = record { image = image; pattern = pattern; restrictor = n; listing-is = refuses number row; calls = []; leaves = [] }
 
 abbrev pub rules : List Example
 rules =

@@ -5,7 +5,7 @@ use mathlib.Core.Bool.{Bool, false, true}
 use Prim.Native.Nat.{_*_, _+_, _-_, _<_, _≤_, suc, zero, ℕ}
 use native.Mathlib.Omega.{arith}
 use lib.Dec.{leb}
-use lib.ListN.{drop, length, length-append, replicate, take}
+use lib.ListN.{drop, length, replicate, take}
 use lib.Seq.{drop-append-add}
 use borrow.Author.Tests.{leb-false, leb-true}
 use Rattle.meaning.proofs.Lists.{take-front}
@@ -128,14 +128,6 @@ types-told π n x v τ h = slot-is π x v ∙ (ap (λ (f : Found). padded (found
 pub unused-told : (π : Pattern) (x : ℕ) → isVariable x ≡ true → inVar π x ≡ false → typeSlot (typeWords π) x ≡ replicate 6 0
 unfolding opened
 unused-told π x v u = slot-is π x v ∙ ap (λ (f : Found). padded (foundWords f)) (unused→absent π x u)
-
-pub length-typeWords : (π : Pattern) → length (typeWords π) ≡ 48
-unfolding opened
-length-typeWords π = blocks 8 1
-  where
-    blocks : (n i : ℕ) → length (each (upFrom n i) (λ x. padded (foundWords (typeOf π x)))) ≡ 6 * n
-    blocks zero i = refl
-    blocks (suc n) i = length-append (padded (foundWords (typeOf π i))) (each (upFrom n (suc i)) (λ x. padded (foundWords (typeOf π x)))) ∙ omega (arith, length-padded (foundWords (typeOf π i)), blocks n (suc i))
 
 -- the numbers tell the type, whatever zeros follow
 pub words-tell : (τ σ : Ty) (m n : ℕ) → tyWords τ ++ replicate m 0 ≡ tyWords σ ++ replicate n 0 → τ ≡ σ

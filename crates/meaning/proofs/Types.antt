@@ -10,7 +10,7 @@ use Rattle.meaning.proofs.Logic.{no-true}
 use Rattle.meaning.proofs.Opened.{opened}
 use Rattle.meaning.proofs.Unused.{absent→unused, no-clash-absent, no-clash-typed, unused→absent}
 use Rattle.meaning.specs.Pattern.{Condition, Pattern, conditioned, inVar}
-use Rattle.meaning.specs.Typing.{Edge, Fits, Found, Group, Has, Maybe, Node, Single, Ty, Ty-discrete, WellTyped, absent, clash, concatenationTy, conditionedTy, fits, fits-and, fits-constant, fits-neg, fits-or, fits-property, has-both, has-conditioned, has-edge, has-first, has-group, has-left, has-left-maybe, has-node, has-right, has-right-maybe, has-second, has-shared, meet, namedTy, one-edge, one-node, repetitionTy, single, typeOf, typed, unionTy}
+use Rattle.meaning.specs.Typing.{Edge, Fits, Found, Group, Has, Maybe, Node, Single, Ty, Ty-discrete, WellTyped, absent, clash, concatenationTy, conditionedTy, fits, fits-and, fits-constant, fits-neg, fits-or, fits-property, has-both, has-conditioned, has-edge, has-first, has-group, has-left, has-left-maybe, has-node, has-right, has-right-maybe, has-second, has-shared, joinTy, namedTy, one-edge, one-node, repetitionTy, single, typeOf, typed, unionTy}
 
 unfoldable depth : Ty → ℕ
 depth Node = 0
@@ -18,18 +18,18 @@ depth Edge = 0
 depth (Maybe τ) = suc (depth τ)
 depth (Group τ) = suc (depth τ)
 
-meet-same : (τ : Ty) (d : Dec (τ ≡ τ)) (d₂ : Dec (τ ≡ Maybe τ)) (d₃ : Dec (τ ≡ Maybe τ)) → meet τ τ d d₂ d₃ ≡ typed τ
+meet-same : (τ : Ty) (d : Dec (τ ≡ τ)) (d₂ : Dec (τ ≡ Maybe τ)) (d₃ : Dec (τ ≡ Maybe τ)) → joinTy τ τ d d₂ d₃ ≡ typed τ
 unfolding opened
 meet-same τ (yes p) d₂ d₃ = refl
 meet-same τ (no n) d₂ d₃ = absurd (n refl)
 
-meet-left : (τ : Ty) (d : Dec (τ ≡ Maybe τ)) (d₂ : Dec (Maybe τ ≡ Maybe τ)) (d₃ : Dec (τ ≡ Maybe (Maybe τ))) → meet τ (Maybe τ) d d₂ d₃ ≡ typed (Maybe τ)
+meet-left : (τ : Ty) (d : Dec (τ ≡ Maybe τ)) (d₂ : Dec (Maybe τ ≡ Maybe τ)) (d₃ : Dec (τ ≡ Maybe (Maybe τ))) → joinTy τ (Maybe τ) d d₂ d₃ ≡ typed (Maybe τ)
 unfolding opened
 meet-left τ (yes p) d₂ d₃ = ap typed p
 meet-left τ (no n) (yes p) d₃ = refl
 meet-left τ (no n) (no m) d₃ = absurd (m refl)
 
-meet-right : (τ : Ty) (d : Dec (Maybe τ ≡ τ)) (d₂ : Dec (τ ≡ Maybe (Maybe τ))) (d₃ : Dec (Maybe τ ≡ Maybe τ)) → meet (Maybe τ) τ d d₂ d₃ ≡ typed (Maybe τ)
+meet-right : (τ : Ty) (d : Dec (Maybe τ ≡ τ)) (d₂ : Dec (τ ≡ Maybe (Maybe τ))) (d₃ : Dec (Maybe τ ≡ Maybe τ)) → joinTy (Maybe τ) τ d d₂ d₃ ≡ typed (Maybe τ)
 unfolding opened depth
 meet-right τ (yes p) d₂ d₃ = refl
 meet-right τ (no n) (yes p) d₃ = absurd (omega (arith, ap depth p))
@@ -40,10 +40,6 @@ concatenationTy-single : {τ : Ty} → Single τ → concatenationTy (typed τ) 
 unfolding opened
 concatenationTy-single one-node = refl
 concatenationTy-single one-edge = refl
-
-concatenationTy-first : (τ : Ty) → concatenationTy (typed τ) absent ≡ typed τ
-unfolding opened
-concatenationTy-first τ = refl
 
 single-true : {τ : Ty} → Single τ → single (typed τ) ≡ true
 unfolding opened

@@ -16,7 +16,7 @@ use Rattle.meaning.proofs.Types.{wellTyped-iff}
 use Rattle.meaning.proofs.Variables.{var-all}
 use Rattle.meaning.specs.Basics.{Cause, atRow, eight, firstOf, lowest}
 use Rattle.meaning.specs.Pattern.{Pattern, inVar}
-use Rattle.meaning.specs.Table.{Item, Row, anyOf, asPattern, condition, fault12, fault13, fault14, fault15, fault16, fine, formAt, isClash, isVariable, itemAt, nil, onPattern, pattern, rowCause, tableFault, untyped}
+use Rattle.meaning.specs.Table.{Item, Row, anyOf, asPattern, conditionItem, fault12, fault13, fault14, fault15, fault16, fine, formAt, isClash, isVariable, itemAt, noItem, onPattern, patternItem, rowCause, tableFault, untyped}
 use Rattle.meaning.specs.Typing.{Found, WellTyped, absent, clash, typeOf, typed}
 
 -- a pattern whose variables are 1 to 8 is untyped just where Definition 1 fails
@@ -41,16 +41,16 @@ typed→ π v e = wellTyped-iff π .1 (typed-pattern π v e)
 
 -- the pattern of a row, if it has one, is well-typed
 abbrev pub RowTyped : List Row → ℕ → Type 0
-RowTyped t i = (π : Pattern) → itemAt t i ≡ pattern π → WellTyped π
+RowTyped t i = (π : Pattern) → itemAt t i ≡ patternItem π → WellTyped π
 
 -- the row has a pattern that has no type: 16
 pub record RowUntyped (t : List Row) (i : ℕ) : Type 0 where
   pub π : Pattern
-  pub item-is : itemAt t i ≡ pattern π
+  pub item-is : itemAt t i ≡ patternItem π
   pub no-type : WellTyped π → ⊥
 
 module _ (t : List Row) (ok : (i : ℕ) → i < length t → fine t i (formAt t i) ≡ true) where
-  row-variables : (i : ℕ) → i < length t → (π : Pattern) → itemAt t i ≡ pattern π → (x : ℕ) → inVar π x ≡ true → isVariable x ≡ true
+  row-variables : (i : ℕ) → i < length t → (π : Pattern) → itemAt t i ≡ patternItem π → (x : ℕ) → inVar π x ≡ true → isVariable x ≡ true
   unfolding opened
   row-variables i h π q x e = var-all t ok i h x (ap (λ (y : Item). inVar (asPattern y) x) q ∙ e)
 
@@ -63,18 +63,18 @@ module _ (t : List Row) (ok : (i : ℕ) → i < length t → fine t i (formAt t 
   row-typed← i h w = go (itemAt t i) refl
     where
       go : (y : Item) → itemAt t i ≡ y → onPattern untyped y ≡ false
-      go (pattern π) q = is-false (untyped π) (λ e. untyped→ π e (w π q))
-      go (condition θ) q = refl
-      go nil q = refl
+      go (patternItem π) q = is-false (untyped π) (λ e. untyped→ π e (w π q))
+      go (conditionItem θ) q = refl
+      go noItem q = refl
 
   row-untyped→ : (i : ℕ) → i < length t → fault16 t i ≡ true → RowUntyped t i
   unfolding opened
   row-untyped→ i h e = go (itemAt t i) refl e
     where
       go : (y : Item) → itemAt t i ≡ y → onPattern untyped y ≡ true → RowUntyped t i
-      go (pattern π) q u = record { π = π; item-is = q; no-type = untyped→ π u }
-      go (condition θ) q u = no-false u
-      go nil q u = no-false u
+      go (patternItem π) q u = record { π = π; item-is = q; no-type = untyped→ π u }
+      go (conditionItem θ) q u = no-false u
+      go noItem q u = no-false u
 
   row-untyped← : (i : ℕ) → i < length t → RowUntyped t i → fault16 t i ≡ true
   unfolding opened

@@ -8,7 +8,7 @@ use borrow.Author.Tests.{eq-eqb, eqb-true}
 use Rattle.meaning.proofs.Logic.{and-l, and-r, either, no-false, or-cases, or-false-both, or-false-l, or-false-r, or-l}
 use Rattle.meaning.proofs.Opened.{opened}
 use Rattle.meaning.specs.Pattern.{Condition, Pattern, and, concatenation, conditioned, edge, equalsConstant, equalsProperty, inCondition, inVar, named, neg, node, or, repetition, union}
-use Rattle.meaning.specs.Typing.{Edge, Found, Group, Maybe, Node, Ty, Ty-discrete, absent, clash, concatenationTy, conditionedTy, fits, meet, namedTy, repetitionTy, single, typeOf, typed, unionTy}
+use Rattle.meaning.specs.Typing.{Edge, Found, Group, Maybe, Node, Ty, Ty-discrete, absent, clash, concatenationTy, conditionedTy, fits, joinTy, namedTy, repetitionTy, single, typeOf, typed, unionTy}
 
 module _ {A : Type 0} where
   pub no-absent-typed : {τ : Ty} → absent ≡ typed τ → A
@@ -48,7 +48,7 @@ unionTy-absent (typed τ) absent e = no-typed-absent e
 unionTy-absent (typed τ) clash e = no-clash-absent e
 unionTy-absent (typed τ) (typed σ) e = go (Ty-discrete τ σ) (Ty-discrete σ (Maybe τ)) (Ty-discrete τ (Maybe σ)) e
   where
-    go : (d : Dec (τ ≡ σ)) (d₂ : Dec (σ ≡ Maybe τ)) (d₃ : Dec (τ ≡ Maybe σ)) → meet τ σ d d₂ d₃ ≡ absent → (typed τ ≡ absent) × (typed σ ≡ absent)
+    go : (d : Dec (τ ≡ σ)) (d₂ : Dec (σ ≡ Maybe τ)) (d₃ : Dec (τ ≡ Maybe σ)) → joinTy τ σ d d₂ d₃ ≡ absent → (typed τ ≡ absent) × (typed σ ≡ absent)
     go (yes p) d₂ d₃ e = no-typed-absent e
     go (no p) (yes q) d₃ e = no-typed-absent e
     go (no p) (no q) (yes r) e = no-typed-absent e

@@ -14,12 +14,12 @@ use Rattle.meaning.proofs.Opened.{opened}
 use Rattle.meaning.proofs.Rows.{condition-below, every-row, pattern-below}
 use Rattle.meaning.specs.Basics.{if_then_else_}
 use Rattle.meaning.specs.Pattern.{inCondition, inVar, named}
-use Rattle.meaning.specs.Table.{Form, Item, Row, asCondition, asPattern, condition, conditionRow, fine, formAt, isAnd, isBad, isConcatenation, isConditioned, isConstant, isEdge, isNode, isNot, isOr, isProperty, isRepetition, isUnion, isVariable, itemAt, make, nil, pattern, patternRow, unless}
+use Rattle.meaning.specs.Table.{Form, Item, Row, asCondition, asPattern, conditionItem, conditionRow, fine, formAt, isAnd, isBad, isConcatenation, isConditioned, isConstant, isEdge, isNode, isNot, isOr, isProperty, isRepetition, isUnion, isVariable, itemAt, make, noItem, patternItem, patternRow, unless}
 
 abbrev VariablesItem : Item → Type 0
-VariablesItem (pattern π) = (x : ℕ) → inVar π x ≡ true → isVariable x ≡ true
-VariablesItem (condition θ) = (x : ℕ) → inCondition θ x ≡ true → isVariable x ≡ true
-VariablesItem nil = Unit {0}
+VariablesItem (patternItem π) = (x : ℕ) → inVar π x ≡ true → isVariable x ≡ true
+VariablesItem (conditionItem θ) = (x : ℕ) → inCondition θ x ≡ true → isVariable x ≡ true
+VariablesItem noItem = Unit {0}
 
 moved : (y x : ℕ) → isVariable y ≡ true → eqb y x ≡ true → isVariable x ≡ true
 unfolding opened
@@ -27,15 +27,15 @@ moved y x h e = rw (eqb-true y x e) at h
 
 var-pattern : (i : Item) → VariablesItem i → (x : ℕ) → inVar (asPattern i) x ≡ true → isVariable x ≡ true
 unfolding opened
-var-pattern (pattern π) h = h
-var-pattern (condition θ) h = λ x e. no-false e
-var-pattern nil h = λ x e. no-false e
+var-pattern (patternItem π) h = h
+var-pattern (conditionItem θ) h = λ x e. no-false e
+var-pattern noItem h = λ x e. no-false e
 
 var-condition : (i : Item) → VariablesItem i → (x : ℕ) → inCondition (asCondition i) x ≡ true → isVariable x ≡ true
 unfolding opened
-var-condition (pattern π) h = λ x e. moved 1 x refl e
-var-condition (condition θ) h = h
-var-condition nil h = λ x e. moved 1 x refl e
+var-condition (patternItem π) h = λ x e. moved 1 x refl e
+var-condition (conditionItem θ) h = h
+var-condition noItem h = λ x e. moved 1 x refl e
 
 named-var : (y x : ℕ) → leb y 8 ≡ true → named (unless 0 y) x ≡ true → isVariable x ≡ true
 unfolding opened

@@ -2,12 +2,12 @@
 use mathlib.Core.Path.{_≡_}
 use mathlib.Core.List.{List, [], _∷_}
 use mathlib.Core.Option.{Option, none, some}
-use mathlib.Core.Bool.{Bool, true, false, not, _&&_, _||_}
+use mathlib.Core.Bool.{Bool, false, not, _&&_, _||_}
 use mathlib.Core.Logic.{_⊎_}
-use Prim.Native.Nat.{ℕ, zero, suc, _<_, _≤_}
+use Prim.Native.Nat.{ℕ, suc, _<_, _≤_}
 use native.Mathlib.Decide.{ℕ-discrete}
 use lib.Dec.{eqb}
-use Rattle.meaning.specs.Basics.{if_then_else_, same, orElse}
+use Rattle.meaning.specs.Basics.{if_then_else_, orElse}
 use Rattle.meaning.specs.Graph.{Element, theNode, theEdge, Element-discrete, Graph, Walk, Walk-discrete}
 use Rattle.meaning.specs.Pattern.{Condition, equalsConstant, equalsProperty, and, or, neg, Pattern, inVar}
 use Rattle.meaning.specs.Typing.{Ty, Node, Edge, Maybe, Group, Found, absent, clash, typed}
@@ -59,6 +59,7 @@ Factor = Walk × Assignment
 unfoldable pub pathOf : Factor → Walk
 pathOf f = f .0
 
+-- a factor binds every variable of its pattern (Proposition 9), so that none is for variables that no group lists
 unfoldable pub valueOf : Option Value → Value
 valueOf none = nothing
 valueOf (some v) = v

@@ -1,10 +1,9 @@
 -- Small tools that the definitions share: choice, lists, the lowest row with a fault.
-use mathlib.Core.Path.{_≡_}
 use mathlib.Core.List.{List, [], _∷_, _++_, List·Memᴰ}
 use mathlib.Core.Option.{Option, none, some}
 use mathlib.Core.Bool.{Bool, true, false}
 use Prim.Native.Nat.{ℕ, zero, suc, _≤_}
-use lib.Dec.{eqb, leb}
+use lib.Dec.{leb}
 
 infix 20 if_then_else_
 infix 50 _∈_
@@ -83,10 +82,10 @@ unfoldable pub firstOf : Cause → Cause → Cause
 firstOf none b = b
 firstOf (some a) b = some a
 
--- a cause of which no row is named
-unfoldable pub whole : ℕ → Bool → Cause
-whole n true = some (n, 0)
-whole n false = none
+-- a cause that names no row (01: row is 0 where none is named)
+unfoldable pub rowless : ℕ → Bool → Cause
+rowless n true = some (n, 0)
+rowless n false = none
 
 -- a cause at a row
 unfoldable pub atRow : ℕ → Option ℕ → Cause

@@ -5,7 +5,7 @@ use mathlib.Core.Bool.{Bool, true, false, not, _&&_, _||_}
 use Prim.Native.Nat.{ℕ, zero, suc, _+_, _*_, _/_, _%_}
 use lib.Dec.{eqb, ltb, leb}
 use lib.ListN.{length, getD}
-use Rattle.meaning.specs.Basics.{lowest, upFrom, Cause, firstOf, whole, atRow}
+use Rattle.meaning.specs.Basics.{lowest, upFrom, Cause, firstOf, rowless, atRow}
 use Rattle.meaning.specs.Graph.{Element, theNode, theEdge, EdgeRow, Graph}
 
 -- 16 bits, low byte first
@@ -25,43 +25,43 @@ unfoldable pub someRow : ℕ → (ℕ → Bool) → Bool
 someRow zero f = false
 someRow (suc n) f = f n || someRow n f
 
-module _ (b : List ℕ) where
-  -- the directory: offset and length in bytes of nodes, edges, labels, properties
+module _ (image : List ℕ) where
+  -- the directory: offset and length, in bytes, of nodes, edges, labels, properties
   unfoldable pub offset : ℕ → ℕ
-  offset k = number b (4 * k)
+  offset k = number image (4 * k)
 
-  unfoldable pub bytes : ℕ → ℕ
-  bytes k = number b (4 * k + 2)
+  unfoldable pub sectionLength : ℕ → ℕ
+  sectionLength k = number image (4 * k + 2)
 
   unfoldable pub nodeCount : ℕ
-  nodeCount = bytes 0 / 2
+  nodeCount = sectionLength 0 / 2
 
   unfoldable pub edgeCount : ℕ
-  edgeCount = bytes 1 / 6
+  edgeCount = sectionLength 1 / 6
 
   unfoldable pub labelCount : ℕ
-  labelCount = bytes 2 / 4
+  labelCount = sectionLength 2 / 4
 
   unfoldable pub propertyCount : ℕ
-  propertyCount = bytes 3 / 6
+  propertyCount = sectionLength 3 / 6
 
   -- the numbers of a row
   unfoldable pub nodeCell : ℕ → ℕ
-  nodeCell i = number b (offset 0 + 2 * i)
+  nodeCell i = number image (offset 0 + 2 * i)
 
   unfoldable pub edgeCell : ℕ → ℕ → ℕ
-  edgeCell i j = number b (offset 1 + (6 * i + 2 * j))
+  edgeCell i j = number image (offset 1 + (6 * i + 2 * j))
 
   unfoldable pub labelCell : ℕ → ℕ → ℕ
-  labelCell i j = number b (offset 2 + (4 * i + 2 * j))
+  labelCell i j = number image (offset 2 + (4 * i + 2 * j))
 
   unfoldable pub propertyCell : ℕ → ℕ → ℕ
-  propertyCell i j = number b (offset 3 + (6 * i + 2 * j))
+  propertyCell i j = number image (offset 3 + (6 * i + 2 * j))
 
   -- 2: each section begins where the one before ends, with whole rows, and the last ends with the image
   unfoldable pub goodDirectory : Bool
-  goodDirectory = eqb (offset 0) 16 && (eqb (offset 1) (offset 0 + bytes 0) && (eqb (offset 2) (offset 1 + bytes 1) && (eqb (offset 3) (offset 2 + bytes 2) && (eqb (length b) (offset 3 + bytes 3)
-      && (eqb (bytes 0 % 2) 0 && (eqb (bytes 1 % 6) 0 && (eqb (bytes 2 % 4) 0 && eqb (bytes 3 % 6) 0)))))))
+  goodDirectory = eqb (offset 0) 16 && (eqb (offset 1) (offset 0 + sectionLength 0) && (eqb (offset 2) (offset 1 + sectionLength 1) && (eqb (offset 3) (offset 2 + sectionLength 2) && (eqb (length image) (offset 3 + sectionLength 3)
+      && (eqb (sectionLength 0 % 2) 0 && (eqb (sectionLength 1 % 6) 0 && (eqb (sectionLength 2 % 4) 0 && eqb (sectionLength 3 % 6) 0)))))))
 
   -- 3
   unfoldable pub tooMany : Bool
@@ -85,7 +85,7 @@ module _ (b : List ℕ) where
   rowFault = firstOf (atRow 4 (lowest nodeCount 0 badNode)) (firstOf (atRow 5 (lowest edgeCount 0 badEdge)) (firstOf (atRow 6 (lowest labelCount 0 badLabel)) (atRow 7 (lowest propertyCount 0 badProperty))))
 
   unfoldable pub imageFault : Cause
-  imageFault = firstOf (whole 1 (ltb (length b) 16)) (firstOf (whole 2 (not goodDirectory)) (firstOf (whole 3 tooMany) rowFault))
+  imageFault = firstOf (rowless 1 (ltb (length image) 16)) (firstOf (rowless 2 (not goodDirectory)) (firstOf (rowless 3 tooMany) rowFault))
 
   -- ------------------------------------------------------------------ the graph
   -- element n below N is node n, element N + e is edge e

@@ -36,12 +36,12 @@ plainRun fault records k (c ∷ cs) =
     t ∷ plainRun fault records (k + printedCount (t .outcome)) cs
 
 unfoldable pub plainMachine : List ℕ → List ℕ → ℕ → List Lent → List Turn
-plainMachine image words n = plainRun (fixedFault image words n) (fullListing image words n) 0
+plainMachine image pattern n = plainRun (fixedFault image pattern n) (fullListing image pattern n) 0
 
 -- fill a page after a bookmark of any words: what the exported operation does
 unfoldable pub fillPage : List ℕ → List ℕ → ℕ → List ℕ → Lent → Turn
-fillPage image words n bookmark c =
-    let o = outcome (fixedFault image words n) c (after bookmark (fullListing image words n)) in
+fillPage image pattern n bookmark c =
+    let o = outcome (fixedFault image pattern n) c (after bookmark (fullListing image pattern n)) in
     record { outcome = o; left = left c o }
 
 -- the records on the page that a call left, read off its words: as many as it reported, their types known
@@ -54,20 +54,20 @@ lastOr b (r ∷ l) = lastOr r l
 
 -- the host's run: each call's bookmark is a copy of the last record printed before it, as the pages show it
 unfoldable pub hostRun : List ℕ → List ℕ → ℕ → List ℕ → List Lent → List Turn
-hostRun image words n bookmark [] = []
-hostRun image words n bookmark (c ∷ cs) =
-    let t = fillPage image words n bookmark c in
-    t ∷ hostRun image words n (lastOr bookmark (pageRecords (typeOf (patternOf words)) t)) cs
+hostRun image pattern n bookmark [] = []
+hostRun image pattern n bookmark (c ∷ cs) =
+    let t = fillPage image pattern n bookmark c in
+    t ∷ hostRun image pattern n (lastOr bookmark (pageRecords (typeOf (patternOf pattern)) t)) cs
 
 -- the same by a host that knows nothing but what C hands it: the count is number 2 of the report where the call was answered
 unfoldable pub shownRecords : (ℕ → Found) → Left → List Record
 shownRecords types f = if eqb (f .result) 1 then recordsIn types (reported 2 (f .report)) (f .page) else []
 
 unfoldable pub hostCalls : List ℕ → List ℕ → ℕ → List ℕ → List Lent → List Left
-hostCalls image words n bookmark [] = []
-hostCalls image words n bookmark (c ∷ cs) =
-    let f = fillPage image words n bookmark c .left in
-    f ∷ hostCalls image words n (lastOr bookmark (shownRecords (typeOf (patternOf words)) f)) cs
+hostCalls image pattern n bookmark [] = []
+hostCalls image pattern n bookmark (c ∷ cs) =
+    let f = fillPage image pattern n bookmark c .left in
+    f ∷ hostCalls image pattern n (lastOr bookmark (shownRecords (typeOf (patternOf pattern)) f)) cs
 
 -- the records on the pages up to the first one marked done, if one is
 unfoldable pub isDone : Outcome → Bool

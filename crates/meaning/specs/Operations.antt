@@ -1,11 +1,11 @@
 -- The four operations open to C, each as a function from what it is lent to what it returns and leaves.
-use mathlib.Core.List.{List, [], _∷_, _++_}
-use mathlib.Core.Option.{Option, none, some}
-use mathlib.Core.Bool.{Bool, true, false, not}
+use mathlib.Core.List.{List}
+use mathlib.Core.Option.{none, some}
+use mathlib.Core.Bool.{Bool}
 use Prim.Native.Nat.{ℕ}
-use lib.Dec.{leb, ltb}
+use lib.Dec.{ltb}
 use lib.ListN.{length, replicate}
-use Rattle.meaning.specs.Basics.{if_then_else_, Cause, firstOf, whole}
+use Rattle.meaning.specs.Basics.{if_then_else_, Cause, firstOf, rowless}
 use Rattle.meaning.specs.Image.{imageFault}
 use Rattle.meaning.specs.Table.{patternFault, patternOf, typeWords}
 use Rattle.meaning.specs.FullListing.{fixedFault, judge}
@@ -31,16 +31,16 @@ pub record CheckLeft : Type 0 where
   pub report : List ℕ
 
 unfoldable pub typesOrZeros : Cause → List ℕ → List ℕ
-typesOrZeros none words = typeWords (patternOf words)
-typesOrZeros (some c) words = replicate 48 0
+typesOrZeros none pattern = typeWords (patternOf pattern)
+typesOrZeros (some c) pattern = replicate 48 0
 
 unfoldable pub checkPattern : List ℕ → List ℕ → List ℕ → CheckLeft
-checkPattern words types report =
+checkPattern pattern types report =
     if wideEnough report
     then
     if ltb (length types) 48
     then record { result = 1; types = types; report = over (causeBytes (some (17, 0))) report }
-    else record { result = 1; types = over (typesOrZeros (patternFault words) words) types; report = over (causeBytes (patternFault words)) report }
+    else record { result = 1; types = over (typesOrZeros (patternFault pattern) pattern) types; report = over (causeBytes (patternFault pattern)) report }
     else record { result = 0; types = types; report = report }
 
 -- judge a record
@@ -54,11 +54,11 @@ judgeUnless none verdict work report = record { result = 1; work = cleared 20000
 judgeUnless (some c) verdict work report = record { result = 1; work = work; report = over (causeBytes (some c)) report }
 
 unfoldable pub judgeRecord : List ℕ → List ℕ → ℕ → List ℕ → List ℕ → List ℕ → JudgeLeft
-judgeRecord image words n r work report =
+judgeRecord image pattern n r work report =
     if wideEnough report
-    then judgeUnless (firstOf (fixedFault image words n) (whole 22 (ltb (length work) 20000))) (judge image words n r) work report
+    then judgeUnless (firstOf (fixedFault image pattern n) (rowless 22 (ltb (length work) 20000))) (judge image pattern n r) work report
     else record { result = 0; work = work; report = report }
 
 -- fill a page
 unfoldable pub fillPageLeft : List ℕ → List ℕ → ℕ → List ℕ → Lent → Left
-fillPageLeft image words n bookmark c = fillPage image words n bookmark c .left
+fillPageLeft image pattern n bookmark c = fillPage image pattern n bookmark c .left

@@ -5,7 +5,7 @@ use mathlib.Core.Bool.{Bool, false, true}
 use Prim.Native.Nat.{_-_, ℕ}
 use lib.Dec.{leb, ltb}
 use lib.ListN.{drop, length}
-use Rattle.meaning.specs.Basics.{Cause, firstOf, if_then_else_, keep, whole}
+use Rattle.meaning.specs.Basics.{Cause, firstOf, if_then_else_, keep, rowless}
 use Rattle.meaning.specs.Listing.{before}
 use Rattle.meaning.specs.Record.{Record}
 use Rattle.meaning.specs.Report.{bit, causeBytes, cleared, over, reportBytes, wideEnough}
@@ -60,7 +60,7 @@ unlessFault (some c) o = refused c
 unfoldable pub outcome : Cause → Lent → List Record → Outcome
 outcome fault c rest =
     if wideEnough (c .report)
-    then unlessFault (firstOf fault (whole 22 (ltb (length (c .work)) 20000))) (filled (length (c .page)) rest)
+    then unlessFault (firstOf fault (rowless 22 (ltb (length (c .work)) 20000))) (filled (length (c .page)) rest)
     else unanswered
 
 unfoldable pub left : Lent → Outcome → Left

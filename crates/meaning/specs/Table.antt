@@ -5,7 +5,7 @@ use mathlib.Core.Bool.{Bool, true, false, not, _&&_, _||_}
 use Prim.Native.Nat.{ℕ, zero, suc, _-_, _%_}
 use lib.Dec.{eqb, ltb, leb}
 use lib.ListN.{length, getD, take}
-use Rattle.meaning.specs.Basics.{if_then_else_, each, eight, lowest, Cause, firstOf, whole, atRow}
+use Rattle.meaning.specs.Basics.{if_then_else_, each, eight, lowest, Cause, firstOf, rowless, atRow}
 use Rattle.meaning.specs.Graph.{Direction, forward, backward, undirected}
 use Rattle.meaning.specs.Pattern.{Condition, equalsConstant, equalsProperty, and, or, neg, Pattern, node, edge, union, concatenation, conditioned, repetition, edgeless, nesting}
 use Rattle.meaning.specs.Typing.{Ty, Node, Edge, Maybe, Group, Found, absent, clash, typed, typeOf}
@@ -41,27 +41,27 @@ pub data Form : Type 0 where
   isNot : ℕ → Form
   isBad : Form
 
--- numbers not listed for a kind are 0
-unfoldable pub unused : Bool → Form → Form
-unused true f = f
-unused false f = isBad
+-- the form, where the numbers not listed for its kind are 0
+unfoldable pub ifZero : Bool → Form → Form
+ifZero true f = f
+ifZero false f = isBad
 
 unfoldable pub form : Row → Form
 form l =
     let rs = eqb (l .r) 0 && eqb (l .s) 0 in
-    if eqb (l .kind) 1 then unused rs (isNode (l .p) (l .q)) else
-    if eqb (l .kind) 2 then unused rs (isEdge forward (l .p) (l .q)) else
-    if eqb (l .kind) 3 then unused rs (isEdge backward (l .p) (l .q)) else
-    if eqb (l .kind) 4 then unused rs (isEdge undirected (l .p) (l .q)) else
-    if eqb (l .kind) 5 then unused rs (isUnion (l .p) (l .q)) else
-    if eqb (l .kind) 6 then unused rs (isConcatenation (l .p) (l .q)) else
-    if eqb (l .kind) 7 then unused rs (isConditioned (l .p) (l .q)) else
-    if eqb (l .kind) 8 then unused (eqb (l .q) 0) (isRepetition (l .p) (l .r) (l .s)) else
-    if eqb (l .kind) 16 then unused (eqb (l .s) 0) (isConstant (l .p) (l .q) (l .r)) else
+    if eqb (l .kind) 1 then ifZero rs (isNode (l .p) (l .q)) else
+    if eqb (l .kind) 2 then ifZero rs (isEdge forward (l .p) (l .q)) else
+    if eqb (l .kind) 3 then ifZero rs (isEdge backward (l .p) (l .q)) else
+    if eqb (l .kind) 4 then ifZero rs (isEdge undirected (l .p) (l .q)) else
+    if eqb (l .kind) 5 then ifZero rs (isUnion (l .p) (l .q)) else
+    if eqb (l .kind) 6 then ifZero rs (isConcatenation (l .p) (l .q)) else
+    if eqb (l .kind) 7 then ifZero rs (isConditioned (l .p) (l .q)) else
+    if eqb (l .kind) 8 then ifZero (eqb (l .q) 0) (isRepetition (l .p) (l .r) (l .s)) else
+    if eqb (l .kind) 16 then ifZero (eqb (l .s) 0) (isConstant (l .p) (l .q) (l .r)) else
     if eqb (l .kind) 17 then isProperty (l .p) (l .q) (l .r) (l .s) else
-    if eqb (l .kind) 18 then unused rs (isAnd (l .p) (l .q)) else
-    if eqb (l .kind) 19 then unused rs (isOr (l .p) (l .q)) else
-    if eqb (l .kind) 20 then unused (eqb (l .q) 0 && rs) (isNot (l .p)) else isBad
+    if eqb (l .kind) 18 then ifZero rs (isAnd (l .p) (l .q)) else
+    if eqb (l .kind) 19 then ifZero rs (isOr (l .p) (l .q)) else
+    if eqb (l .kind) 20 then ifZero (eqb (l .q) 0 && rs) (isNot (l .p)) else isBad
 
 unfoldable pub patternForm : Form → Bool
 patternForm (isNode x l) = true
@@ -112,38 +112,38 @@ times x (y ∷ l) = if eqb x y then suc (times x l) else times x l
 
 -- ------------------------------------------------------------------ what a row comes to, from what the rows below it come to
 pub data Item : Type 0 where
-  pattern : Pattern → Item
-  condition : Condition → Item
-  nil : Item
+  patternItem : Pattern → Item
+  conditionItem : Condition → Item
+  noItem : Item
 
 -- the stand-ins are for rows that 12 refuses
 unfoldable pub asPattern : Item → Pattern
-asPattern (pattern π) = π
-asPattern (condition θ) = node none none
-asPattern nil = node none none
+asPattern (patternItem π) = π
+asPattern (conditionItem θ) = node none none
+asPattern noItem = node none none
 
 unfoldable pub asCondition : Item → Condition
-asCondition (pattern π) = equalsConstant 1 0 0
-asCondition (condition θ) = θ
-asCondition nil = equalsConstant 1 0 0
+asCondition (patternItem π) = equalsConstant 1 0 0
+asCondition (conditionItem θ) = θ
+asCondition noItem = equalsConstant 1 0 0
 
 -- 0 is no variable and no label; 65535 is no bound
 unfoldable pub unless : ℕ → ℕ → Option ℕ
 unless absence x = if eqb x absence then none else some x
 
 unfoldable pub make : (ℕ → Item) → Form → Item
-make f (isNode x l) = pattern (node (unless 0 x) (unless 0 l))
-make f (isEdge d x l) = pattern (edge d (unless 0 x) (unless 0 l))
-make f (isUnion p q) = pattern (union (asPattern (f p)) (asPattern (f q)))
-make f (isConcatenation p q) = pattern (concatenation (asPattern (f p)) (asPattern (f q)))
-make f (isConditioned p q) = pattern (conditioned (asPattern (f p)) (asCondition (f q)))
-make f (isRepetition p r s) = pattern (repetition (asPattern (f p)) r (unless 65535 s))
-make f (isConstant x k c) = condition (equalsConstant x k c)
-make f (isProperty x k y l) = condition (equalsProperty x k y l)
-make f (isAnd p q) = condition (and (asCondition (f p)) (asCondition (f q)))
-make f (isOr p q) = condition (or (asCondition (f p)) (asCondition (f q)))
-make f (isNot p) = condition (neg (asCondition (f p)))
-make f isBad = nil
+make f (isNode x l) = patternItem (node (unless 0 x) (unless 0 l))
+make f (isEdge d x l) = patternItem (edge d (unless 0 x) (unless 0 l))
+make f (isUnion p q) = patternItem (union (asPattern (f p)) (asPattern (f q)))
+make f (isConcatenation p q) = patternItem (concatenation (asPattern (f p)) (asPattern (f q)))
+make f (isConditioned p q) = patternItem (conditioned (asPattern (f p)) (asCondition (f q)))
+make f (isRepetition p r s) = patternItem (repetition (asPattern (f p)) r (unless 65535 s))
+make f (isConstant x k c) = conditionItem (equalsConstant x k c)
+make f (isProperty x k y l) = conditionItem (equalsProperty x k y l)
+make f (isAnd p q) = conditionItem (and (asCondition (f p)) (asCondition (f q)))
+make f (isOr p q) = conditionItem (or (asCondition (f p)) (asCondition (f q)))
+make f (isNot p) = conditionItem (neg (asCondition (f p)))
+make f isBad = noItem
 
 -- a repetition whose body has the property
 unfoldable pub repeats : (Pattern → Bool) → Pattern → Bool
@@ -155,9 +155,9 @@ repeats f (conditioned a θ) = false
 repeats f (repetition a n m) = f a
 
 unfoldable pub onPattern : (Pattern → Bool) → Item → Bool
-onPattern f (pattern π) = f π
-onPattern f (condition θ) = false
-onPattern f nil = false
+onPattern f (patternItem π) = f π
+onPattern f (conditionItem θ) = false
+onPattern f noItem = false
 
 unfoldable pub twoDeep : Pattern → Bool
 twoDeep a = leb 2 (nesting a)
@@ -186,10 +186,10 @@ module _ (t : List Row) where
   -- what the rows below i come to
   unfoldable pub lower : ℕ → List Item
   lower zero = []
-  lower (suc i) = lower i ++ (make (λ j. getD (lower i) j nil) (formAt i) ∷ [])
+  lower (suc i) = lower i ++ (make (λ j. getD (lower i) j noItem) (formAt i) ∷ [])
 
   unfoldable pub itemAt : ℕ → Item
-  itemAt i = make (λ j. getD (lower i) j nil) (formAt i)
+  itemAt i = make (λ j. getD (lower i) j noItem) (formAt i)
 
   unfoldable pub patternRow : ℕ → ℕ → Bool
   patternRow i j = ltb j i && patternForm (formAt j)
@@ -240,13 +240,13 @@ module _ (t : List Row) where
 
 -- 11: not whole rows, none, or over 64
 unfoldable pub badLength : List ℕ → Bool
-badLength w = not (eqb (length w % 5) 0) || (eqb (length w) 0 || ltb 320 (length w))
+badLength pattern = not (eqb (length pattern % 5) 0) || (eqb (length pattern) 0 || ltb 320 (length pattern))
 
 unfoldable pub patternFault : List ℕ → Cause
-patternFault w = firstOf (whole 11 (badLength w)) (tableFault (rowsOf w))
+patternFault pattern = firstOf (rowless 11 (badLength pattern)) (tableFault (rowsOf pattern))
 
 unfoldable pub patternOf : List ℕ → Pattern
-patternOf w = tablePattern (rowsOf w)
+patternOf pattern = tablePattern (rowsOf pattern)
 
 -- ------------------------------------------------------------------ a type as six numbers, eight variables as 48 words
 unfoldable pub tyWords : Ty → List ℕ

@@ -75,12 +75,12 @@ fits f (and s t) = fits f s && fits f t
 fits f (or s t) = fits f s && fits f t
 fits f (neg s) = fits f s
 
--- two types in a union: the common one, or Maybe of τ beside τ
-unfoldable pub meet : (τ σ : Ty) → Dec (τ ≡ σ) → Dec (σ ≡ Maybe τ) → Dec (τ ≡ Maybe σ) → Found
-meet τ σ (yes p) e₂ e₃ = typed τ
-meet τ σ (no p) (yes q) e₃ = typed σ
-meet τ σ (no p) (no q) (yes r) = typed τ
-meet τ σ (no p) (no q) (no r) = clash
+-- the join of two types in a union: the common one, or Maybe of τ beside τ
+unfoldable pub joinTy : (τ σ : Ty) → Dec (τ ≡ σ) → Dec (σ ≡ Maybe τ) → Dec (τ ≡ Maybe σ) → Found
+joinTy τ σ (yes p) e₂ e₃ = typed τ
+joinTy τ σ (no p) (yes q) e₃ = typed σ
+joinTy τ σ (no p) (no q) (yes r) = typed τ
+joinTy τ σ (no p) (no q) (no r) = clash
 
 unfoldable pub unionTy : Found → Found → Found
 unionTy absent absent = absent
@@ -91,7 +91,7 @@ unionTy clash clash = clash
 unionTy clash (typed σ) = clash
 unionTy (typed τ) absent = typed (opt τ)
 unionTy (typed τ) clash = clash
-unionTy (typed τ) (typed σ) = meet τ σ (Ty-discrete τ σ) (Ty-discrete σ (Maybe τ)) (Ty-discrete τ (Maybe σ))
+unionTy (typed τ) (typed σ) = joinTy τ σ (Ty-discrete τ σ) (Ty-discrete σ (Maybe τ)) (Ty-discrete τ (Maybe σ))
 
 -- a shared variable of a concatenation is Node in both or Edge in both
 unfoldable pub concatenationTy : Found → Found → Found

@@ -9,7 +9,7 @@ use Rattle.bits.proofs.Cases.{by-ltb}
 use Rattle.bits.proofs.Laws.{at, only-in, only-out}
 use Rattle.bits.specs.declared.Set.{Set}
 use Rattle.bits.specs.Sets.{insert, none, only, setOf}
-use Rattle.meaning.proofs.Logic.{no-true, not-false}
+use Rattle.meaning.proofs.Logic.{no-true}
 use Rattle.meaning.proofs.Opened.{opened}
 use Rattle.meaning.specs.Answer.{Restricted, fresh, onEdge, onNode}
 use Rattle.meaning.specs.Graph.{Walk, stop}

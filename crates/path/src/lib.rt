@@ -7,7 +7,6 @@ mod used;
 mod written;
 
 pub use base::Base;
-pub use path::Extended;
 pub use path::Path;
 pub use tails::behind;
 pub use tails::tail;

@@ -8,7 +8,7 @@ use lib.Dec.{eqb, ltb, leb}
 use lib.ListN.{getD}
 use borrow.Author.Tests.{leb-true, ne-eqb}
 use Rattle.meaning.specs.Basics.{if_then_else_}
-use Rattle.meaning.specs.Table.{Form, form, fine, unused, isBad, patternForm, conditionForm, patternRow, conditionRow, isVariable, namesOf}
+use Rattle.meaning.specs.Table.{Form, form, fine, ifZero, isBad, patternForm, conditionForm, patternRow, conditionRow, isVariable, namesOf}
 use Rattle.meaning.specs.Table.{Row as RowOf}
 use Rattle.rows.specs.Rows.{patternKind, conditionKind}
 use Rattle.rows.specs.Uses.{usesOf, useOf, allowed}
@@ -87,8 +87,8 @@ partsOf k p q = if ltb k 5 then [] else if ltb k 8 then p ∷ q ∷ [] else if e
 
 -- ------------------------------------------------------------------ what stands for a kind's uses is what fine asks
 module _ (rows : List RowOf) (i : ℕ) where
-  unused-fine : (b : Bool) (f : Form) → fine rows i (unused b f) ≡ (fine rows i f && b)
-  unfolding fine unused
+  unused-fine : (b : Bool) (f : Form) → fine rows i (ifZero b f) ≡ (fine rows i f && b)
+  unfolding fine ifZero
   unused-fine true f = sym (and-true (fine rows i f))
   unused-fine false f = sym (and-false (fine rows i f))
 
@@ -140,8 +140,8 @@ module _ (rows : List RowOf) (i : ℕ) where
   fine-fitted (unlisted {k} u) p q r s = ap (fine rows i) (u .bad p q r s) ∙ sym (ap (λ (us : List ℕ). allowed rows i (getD us 0 7) p && (allowed rows i (getD us 1 7) q && (allowed rows i (getD us 2 7) r && (allowed rows i (getD us 3 7) s && (if eqb k 8 then leb r s else true))))) (u .unusable))
 
   -- a row that is not malformed is of the sort of its kind
-  pub used : (b : Bool) (f : Form) → fine rows i (unused b f) ≡ true → unused b f ≡ f
-  unfolding fine unused
+  pub used : (b : Bool) (f : Form) → fine rows i (ifZero b f) ≡ true → ifZero b f ≡ f
+  unfolding fine ifZero
   used true f e = refl
   used false f e = no-false e
 

@@ -26,19 +26,19 @@ not-le a b = go (ltb a b) refl
     go false e = sym (ap not (le-leb b a (ltb-false a b e)))
 
 -- ------------------------------------------------------------------ a row that was read
-pub form-read : (t : List ℕ) (i : ℕ) (r : Row) → Reads t i r → formAt (rowsOf t) i ≡ form (rowOf r)
+pub form-read : (pattern : List ℕ) (i : ℕ) (r : Row) → Reads pattern i r → formAt (rowsOf pattern) i ≡ form (rowOf r)
 unfolding formAt
-form-read t i r h = ap form (h .is)
+form-read pattern i r h = ap form (h .is)
 
-pub fine-pattern : (t : List ℕ) (j : ℕ) (r : Row) → Reads t j r → fine (rowsOf t) j (formAt (rowsOf t) j) ≡ true → patternForm (formAt (rowsOf t) j) ≡ patternKind (r .kind)
-fine-pattern t j r h e =
-    let f = form-read t j r h in
-    ap patternForm f ∙ pattern-by-kind (rowsOf t) j (kind-of (r .kind)) (r .p) (r .q) (r .r) (r .s) (ap (fine (rowsOf t) j) (sym f) ∙ e)
+pub fine-pattern : (pattern : List ℕ) (j : ℕ) (r : Row) → Reads pattern j r → fine (rowsOf pattern) j (formAt (rowsOf pattern) j) ≡ true → patternForm (formAt (rowsOf pattern) j) ≡ patternKind (r .kind)
+fine-pattern pattern j r h e =
+    let f = form-read pattern j r h in
+    ap patternForm f ∙ pattern-by-kind (rowsOf pattern) j (kind-of (r .kind)) (r .p) (r .q) (r .r) (r .s) (ap (fine (rowsOf pattern) j) (sym f) ∙ e)
 
-pub fine-condition : (t : List ℕ) (j : ℕ) (r : Row) → Reads t j r → fine (rowsOf t) j (formAt (rowsOf t) j) ≡ true → conditionForm (formAt (rowsOf t) j) ≡ conditionKind (r .kind)
-fine-condition t j r h e =
-    let f = form-read t j r h in
-    ap conditionForm f ∙ condition-by-kind (rowsOf t) j (kind-of (r .kind)) (r .p) (r .q) (r .r) (r .s) (ap (fine (rowsOf t) j) (sym f) ∙ e)
+pub fine-condition : (pattern : List ℕ) (j : ℕ) (r : Row) → Reads pattern j r → fine (rowsOf pattern) j (formAt (rowsOf pattern) j) ≡ true → conditionForm (formAt (rowsOf pattern) j) ≡ conditionKind (r .kind)
+fine-condition pattern j r h e =
+    let f = form-read pattern j r h in
+    ap conditionForm f ∙ condition-by-kind (rowsOf pattern) j (kind-of (r .kind)) (r .p) (r .q) (r .r) (r .s) (ap (fine (rowsOf pattern) j) (sym f) ∙ e)
 
 -- ------------------------------------------------------------------ misused
 module _ (rows : List RowOf) (i u n : ℕ) where
@@ -82,14 +82,14 @@ clean-fine : (rows : List RowOf) (j : ℕ) → fault12 rows j ≡ false → fine
 unfolding fault12
 clean-fine rows j e = not-false (fine rows j (formAt rows j)) e
 
-module _ (t : List ℕ) (i u n : ℕ) (r : Row) (b : Bool) where
-  pub mis-pattern : u ≡ 3 → n < i → Reads t n r → b ≡ patternKind (r .kind) → Misused (rowsOf t) i u n (not b)
+module _ (pattern : List ℕ) (i u n : ℕ) (r : Row) (b : Bool) where
+  pub mis-pattern : u ≡ 3 → n < i → Reads pattern n r → b ≡ patternKind (r .kind) → Misused (rowsOf pattern) i u n (not b)
   unfolding allowed patternRow
-  mis-pattern e l d q = record { is = λ h. ap not (q ∙ sym (fine-pattern t n r d (clean-fine (rowsOf t) n (h n l)))) ∙ rw (e, lt-ltb n i l) }
+  mis-pattern e l d q = record { is = λ h. ap not (q ∙ sym (fine-pattern pattern n r d (clean-fine (rowsOf pattern) n (h n l)))) ∙ rw (e, lt-ltb n i l) }
 
-  pub mis-condition : u ≡ 4 → n < i → Reads t n r → b ≡ conditionKind (r .kind) → Misused (rowsOf t) i u n (not b)
+  pub mis-condition : u ≡ 4 → n < i → Reads pattern n r → b ≡ conditionKind (r .kind) → Misused (rowsOf pattern) i u n (not b)
   unfolding allowed conditionRow
-  mis-condition e l d q = record { is = λ h. ap not (q ∙ sym (fine-condition t n r d (clean-fine (rowsOf t) n (h n l)))) ∙ rw (e, lt-ltb n i l) }
+  mis-condition e l d q = record { is = λ h. ap not (q ∙ sym (fine-condition pattern n r d (clean-fine (rowsOf pattern) n (h n l)))) ∙ rw (e, lt-ltb n i l) }
 
 -- ------------------------------------------------------------------ malformed
 told : (rows : List RowOf) (i u v n : ℕ) (b c : Bool) → u ≡ v → ((j : ℕ) → j < i → fault12 rows j ≡ false) → Misused rows i u n b → b ≡ not c → allowed rows i v n ≡ c
@@ -101,41 +101,41 @@ told rows i u v n b c e h m q = ap (λ (w : ℕ). allowed rows i w n) (sym e) �
     flip false true e = sym e
     flip false false e = refl
 
-module _ (t : List ℕ) (i : ℕ) (r : Row) (d : Reads t i r) where
-  fault-read : fault12 (rowsOf t) i ≡ not (fitted (rowsOf t) i (r .kind) (r .p) (r .q) (r .r) (r .s))
+module _ (pattern : List ℕ) (i : ℕ) (r : Row) (d : Reads pattern i r) where
+  fault-read : fault12 (rowsOf pattern) i ≡ not (fitted (rowsOf pattern) i (r .kind) (r .p) (r .q) (r .r) (r .s))
   unfolding fault12
-  fault-read = ap not (ap (fine (rowsOf t) i) (form-read t i r d) ∙ fine-fitted (rowsOf t) i (kind-of (r .kind)) (r .p) (r .q) (r .r) (r .s))
+  fault-read = ap not (ap (fine (rowsOf pattern) i) (form-read pattern i r d) ∙ fine-fitted (rowsOf pattern) i (kind-of (r .kind)) (r .p) (r .q) (r .r) (r .s))
 
-  pub mal-kind : 20 < r .kind → Tells (fault12 (rowsOf t)) i true
+  pub mal-kind : 20 < r .kind → Tells (fault12 (rowsOf pattern)) i true
   unfolding fault12 fine
-  mal-kind l = record { is = λ h. sym (ap not (ap (fine (rowsOf t) i) (form-read t i r d ∙ kind-high (r .kind) l .bad (r .p) (r .q) (r .r) (r .s)))) }
+  mal-kind l = record { is = λ h. sym (ap not (ap (fine (rowsOf pattern) i) (form-read pattern i r d ∙ kind-high (r .kind) l .bad (r .p) (r .q) (r .r) (r .s)))) }
 
-  module _ (u₀ : ℕ) (b₀ : Bool) (e₀ : u₀ ≡ useOf (r .kind) 0) (m₀ : Misused (rowsOf t) i u₀ (r .p) b₀) where
-    pub mal-p : b₀ ≡ true → Tells (fault12 (rowsOf t)) i true
+  module _ (u₀ : ℕ) (b₀ : Bool) (e₀ : u₀ ≡ useOf (r .kind) 0) (m₀ : Misused (rowsOf pattern) i u₀ (r .p) b₀) where
+    pub mal-p : b₀ ≡ true → Tells (fault12 (rowsOf pattern)) i true
     unfolding fitted
-    mal-p y = record { is = λ h. sym (fault-read ∙ rw (told (rowsOf t) i u₀ _ (r .p) b₀ false e₀ h m₀ y)) }
+    mal-p y = record { is = λ h. sym (fault-read ∙ rw (told (rowsOf pattern) i u₀ _ (r .p) b₀ false e₀ h m₀ y)) }
 
-    module _ (n₀ : b₀ ≡ false) (u₁ : ℕ) (b₁ : Bool) (e₁ : u₁ ≡ useOf (r .kind) 1) (m₁ : Misused (rowsOf t) i u₁ (r .q) b₁) where
-      pub mal-q : b₁ ≡ true → Tells (fault12 (rowsOf t)) i true
+    module _ (n₀ : b₀ ≡ false) (u₁ : ℕ) (b₁ : Bool) (e₁ : u₁ ≡ useOf (r .kind) 1) (m₁ : Misused (rowsOf pattern) i u₁ (r .q) b₁) where
+      pub mal-q : b₁ ≡ true → Tells (fault12 (rowsOf pattern)) i true
       unfolding fitted
-      mal-q y = record { is = λ h. sym (fault-read ∙ rw (told (rowsOf t) i u₀ _ (r .p) b₀ true e₀ h m₀ n₀, told (rowsOf t) i u₁ _ (r .q) b₁ false e₁ h m₁ y)) }
+      mal-q y = record { is = λ h. sym (fault-read ∙ rw (told (rowsOf pattern) i u₀ _ (r .p) b₀ true e₀ h m₀ n₀, told (rowsOf pattern) i u₁ _ (r .q) b₁ false e₁ h m₁ y)) }
 
-      module _ (n₁ : b₁ ≡ false) (u₂ : ℕ) (b₂ : Bool) (e₂ : u₂ ≡ useOf (r .kind) 2) (m₂ : Misused (rowsOf t) i u₂ (r .r) b₂) where
-        pub mal-r : b₂ ≡ true → Tells (fault12 (rowsOf t)) i true
+      module _ (n₁ : b₁ ≡ false) (u₂ : ℕ) (b₂ : Bool) (e₂ : u₂ ≡ useOf (r .kind) 2) (m₂ : Misused (rowsOf pattern) i u₂ (r .r) b₂) where
+        pub mal-r : b₂ ≡ true → Tells (fault12 (rowsOf pattern)) i true
         unfolding fitted
-        mal-r y = record { is = λ h. sym (fault-read ∙ rw (told (rowsOf t) i u₀ _ (r .p) b₀ true e₀ h m₀ n₀, told (rowsOf t) i u₁ _ (r .q) b₁ true e₁ h m₁ n₁, told (rowsOf t) i u₂ _ (r .r) b₂ false e₂ h m₂ y)) }
+        mal-r y = record { is = λ h. sym (fault-read ∙ rw (told (rowsOf pattern) i u₀ _ (r .p) b₀ true e₀ h m₀ n₀, told (rowsOf pattern) i u₁ _ (r .q) b₁ true e₁ h m₁ n₁, told (rowsOf pattern) i u₂ _ (r .r) b₂ false e₂ h m₂ y)) }
 
-        module _ (n₂ : b₂ ≡ false) (u₃ : ℕ) (b₃ : Bool) (e₃ : u₃ ≡ useOf (r .kind) 3) (m₃ : Misused (rowsOf t) i u₃ (r .s) b₃) where
-          pub mal-s : b₃ ≡ true → Tells (fault12 (rowsOf t)) i true
+        module _ (n₂ : b₂ ≡ false) (u₃ : ℕ) (b₃ : Bool) (e₃ : u₃ ≡ useOf (r .kind) 3) (m₃ : Misused (rowsOf pattern) i u₃ (r .s) b₃) where
+          pub mal-s : b₃ ≡ true → Tells (fault12 (rowsOf pattern)) i true
           unfolding fitted
-          mal-s y = record { is = λ h. sym (fault-read ∙ rw (told (rowsOf t) i u₀ _ (r .p) b₀ true e₀ h m₀ n₀, told (rowsOf t) i u₁ _ (r .q) b₁ true e₁ h m₁ n₁, told (rowsOf t) i u₂ _ (r .r) b₂ true e₂ h m₂ n₂, told (rowsOf t) i u₃ _ (r .s) b₃ false e₃ h m₃ y)) }
+          mal-s y = record { is = λ h. sym (fault-read ∙ rw (told (rowsOf pattern) i u₀ _ (r .p) b₀ true e₀ h m₀ n₀, told (rowsOf pattern) i u₁ _ (r .q) b₁ true e₁ h m₁ n₁, told (rowsOf pattern) i u₂ _ (r .r) b₂ true e₂ h m₂ n₂, told (rowsOf pattern) i u₃ _ (r .s) b₃ false e₃ h m₃ y)) }
 
-          all : ((j : ℕ) → j < i → fault12 (rowsOf t) j ≡ false) → b₃ ≡ false → fault12 (rowsOf t) i ≡ not (if eqb (r .kind) 8 then leb (r .r) (r .s) else true)
+          all : ((j : ℕ) → j < i → fault12 (rowsOf pattern) j ≡ false) → b₃ ≡ false → fault12 (rowsOf pattern) i ≡ not (if eqb (r .kind) 8 then leb (r .r) (r .s) else true)
           unfolding fitted
-          all h n₃ = fault-read ∙ rw (told (rowsOf t) i u₀ _ (r .p) b₀ true e₀ h m₀ n₀, told (rowsOf t) i u₁ _ (r .q) b₁ true e₁ h m₁ n₁, told (rowsOf t) i u₂ _ (r .r) b₂ true e₂ h m₂ n₂, told (rowsOf t) i u₃ _ (r .s) b₃ true e₃ h m₃ n₃)
+          all h n₃ = fault-read ∙ rw (told (rowsOf pattern) i u₀ _ (r .p) b₀ true e₀ h m₀ n₀, told (rowsOf pattern) i u₁ _ (r .q) b₁ true e₁ h m₁ n₁, told (rowsOf pattern) i u₂ _ (r .r) b₂ true e₂ h m₂ n₂, told (rowsOf pattern) i u₃ _ (r .s) b₃ true e₃ h m₃ n₃)
 
-          pub mal-counts : b₃ ≡ false → r .kind ≡ 8 → Tells (fault12 (rowsOf t)) i (ltb (r .s) (r .r))
+          pub mal-counts : b₃ ≡ false → r .kind ≡ 8 → Tells (fault12 (rowsOf pattern)) i (ltb (r .s) (r .r))
           mal-counts n₃ k = record { is = λ h. sym (all h n₃ ∙ ap (λ (b : Bool). not (if b then leb (r .r) (r .s) else true)) (eq-eqb (r .kind) 8 k) ∙ sym (not-le (r .s) (r .r))) }
 
-          pub mal-not : b₃ ≡ false → (r .kind ≡ 8 → ⊥) → Tells (fault12 (rowsOf t)) i false
+          pub mal-not : b₃ ≡ false → (r .kind ≡ 8 → ⊥) → Tells (fault12 (rowsOf pattern)) i false
           mal-not n₃ k = record { is = λ h. sym (all h n₃ ∙ ap (λ (b : Bool). not (if b then leb (r .r) (r .s) else true)) (ne-eqb (r .kind) 8 k)) }

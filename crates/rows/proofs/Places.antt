@@ -93,15 +93,15 @@ names-conditions rows i (isOr p q) e c = (and-r (ltb p i) _ (and-l (conditionRow
 names-conditions rows i (isNot p) e c = (and-r (ltb p i) _ e, tt)
 names-conditions rows i isBad e c = tt
 
-module _ (t : List ℕ) (j : ℕ) (r : Row) (d : Reads t j r) (f : Formed t) (l : j * 5 + 5 ≤ length t) where
-  names-read : namesOf (formAt (rowsOf t) j) ≡ partsOf (r .kind) (r .p) (r .q)
+module _ (pattern : List ℕ) (j : ℕ) (r : Row) (d : Reads pattern j r) (f : Formed pattern) (l : j * 5 + 5 ≤ length pattern) where
+  names-read : namesOf (formAt (rowsOf pattern) j) ≡ partsOf (r .kind) (r .p) (r .q)
   names-read =
-      let e = form-read t j r d in
-      ap namesOf e ∙ names-by-kind (rowsOf t) j (kind-of (r .kind)) (r .p) (r .q) (r .r) (r .s) (ap (fine (rowsOf t) j) (sym e) ∙ f .ok j (in-rows t j l))
+      let e = form-read pattern j r d in
+      ap namesOf e ∙ names-by-kind (rowsOf pattern) j (kind-of (r .kind)) (r .p) (r .q) (r .r) (r .s) (ap (fine (rowsOf pattern) j) (sym e) ∙ f .ok j (in-rows pattern j l))
 
   -- the rows that a row of the table names are lower
   named-lower : All (λ x. x < j) (partsOf (r .kind) (r .p) (r .q))
-  named-lower = rw names-read at (names-lower (rowsOf t) j (formAt (rowsOf t) j) (f .ok j (in-rows t j l)))
+  named-lower = rw names-read at (names-lower (rowsOf pattern) j (formAt (rowsOf pattern) j) (f .ok j (in-rows pattern j l)))
 
   pub p-lower : 5 ≤ r .kind → r .kind < 9 → r .p < j
   unfolding partsOf
@@ -124,48 +124,48 @@ module _ (t : List ℕ) (j : ℕ) (r : Row) (d : Reads t j r) (f : Formed t) (l 
   pub q-lower-c : 18 ≤ r .kind → r .kind < 20 → r .q < j
   q-lower-c x y = (rw (parts-two-c (r .kind) (r .p) (r .q) x y) at named-lower) .1 .0
 
-  module _ (c : conditionForm (formAt (rowsOf t) j) ≡ true) where
-    named-conditions : All (λ x. conditionForm (formAt (rowsOf t) x) ≡ true) (partsOf (r .kind) (r .p) (r .q))
-    named-conditions = rw names-read at (names-conditions (rowsOf t) j (formAt (rowsOf t) j) (f .ok j (in-rows t j l)) c)
+  module _ (c : conditionForm (formAt (rowsOf pattern) j) ≡ true) where
+    named-conditions : All (λ x. conditionForm (formAt (rowsOf pattern) x) ≡ true) (partsOf (r .kind) (r .p) (r .q))
+    named-conditions = rw names-read at (names-conditions (rowsOf pattern) j (formAt (rowsOf pattern) j) (f .ok j (in-rows pattern j l)) c)
 
-    pub both-conditions : 18 ≤ r .kind → r .kind < 20 → (conditionForm (formAt (rowsOf t) (r .p)) ≡ true) × (conditionForm (formAt (rowsOf t) (r .q)) ≡ true)
+    pub both-conditions : 18 ≤ r .kind → r .kind < 20 → (conditionForm (formAt (rowsOf pattern) (r .p)) ≡ true) × (conditionForm (formAt (rowsOf pattern) (r .q)) ≡ true)
     both-conditions x y = let h = rw (parts-two-c (r .kind) (r .p) (r .q) x y) at named-conditions in (h .0, h .1 .0)
 
-    pub one-is-condition : r .kind ≡ 20 → conditionForm (formAt (rowsOf t) (r .p)) ≡ true
+    pub one-is-condition : r .kind ≡ 20 → conditionForm (formAt (rowsOf pattern) (r .p)) ≡ true
     one-is-condition e = (rw (parts-one-c (r .kind) (r .p) (r .q) e) at named-conditions) .0
 
-module _ (t : List ℕ) (j i : ℕ) (r : Row) (d : Reads t j r) (f : Formed t) (l : j * 5 + 5 ≤ length t) where
-  two : (a : ℕ) → partsOf (r .kind) (r .p) (r .q) ≡ r .p ∷ r .q ∷ [] → Twice i (r .p) (r .q) a → Places t j i a
-  two a e h = record { is = h .is ∙ ap (times i) (sym (names-read t j r d f l ∙ e)); small = h .small }
+module _ (pattern : List ℕ) (j i : ℕ) (r : Row) (d : Reads pattern j r) (f : Formed pattern) (l : j * 5 + 5 ≤ length pattern) where
+  two : (a : ℕ) → partsOf (r .kind) (r .p) (r .q) ≡ r .p ∷ r .q ∷ [] → Twice i (r .p) (r .q) a → Places pattern j i a
+  two a e h = record { is = h .is ∙ ap (times i) (sym (names-read pattern j r d f l ∙ e)); small = h .small }
 
-  one : (a : ℕ) → partsOf (r .kind) (r .p) (r .q) ≡ r .p ∷ [] → Once i (r .p) a → Places t j i a
-  one a e h = record { is = h .is ∙ ap (times i) (sym (names-read t j r d f l ∙ e)); small = omega (arith, h .small) }
+  one : (a : ℕ) → partsOf (r .kind) (r .p) (r .q) ≡ r .p ∷ [] → Once i (r .p) a → Places pattern j i a
+  one a e h = record { is = h .is ∙ ap (times i) (sym (names-read pattern j r d f l ∙ e)); small = omega (arith, h .small) }
 
-  none : partsOf (r .kind) (r .p) (r .q) ≡ [] → Places t j i 0
+  none : partsOf (r .kind) (r .p) (r .q) ≡ [] → Places pattern j i 0
   unfolding times
-  none e = record { is = sym (ap (times i) (names-read t j r d f l ∙ e)); small = omega arith }
+  none e = record { is = sym (ap (times i) (names-read pattern j r d f l ∙ e)); small = omega arith }
 
-  pub two-patterns : (a : ℕ) → 5 ≤ r .kind → r .kind < 8 → Twice i (r .p) (r .q) a → Places t j i a
+  pub two-patterns : (a : ℕ) → 5 ≤ r .kind → r .kind < 8 → Twice i (r .p) (r .q) a → Places pattern j i a
   two-patterns a x y = two a (parts-two (r .kind) (r .p) (r .q) x y)
 
-  pub two-conditions : (a : ℕ) → 18 ≤ r .kind → r .kind < 20 → Twice i (r .p) (r .q) a → Places t j i a
+  pub two-conditions : (a : ℕ) → 18 ≤ r .kind → r .kind < 20 → Twice i (r .p) (r .q) a → Places pattern j i a
   two-conditions a x y = two a (parts-two-c (r .kind) (r .p) (r .q) x y)
 
-  pub one-pattern : (a : ℕ) → r .kind ≡ 8 → Once i (r .p) a → Places t j i a
+  pub one-pattern : (a : ℕ) → r .kind ≡ 8 → Once i (r .p) a → Places pattern j i a
   one-pattern a e = one a (parts-one (r .kind) (r .p) (r .q) e)
 
-  pub one-condition : (a : ℕ) → r .kind ≡ 20 → Once i (r .p) a → Places t j i a
+  pub one-condition : (a : ℕ) → r .kind ≡ 20 → Once i (r .p) a → Places pattern j i a
   one-condition a e = one a (parts-one-c (r .kind) (r .p) (r .q) e)
 
-  pub none-low : r .kind < 5 → Places t j i 0
+  pub none-low : r .kind < 5 → Places pattern j i 0
   unfolding partsOf
   none-low x = none (rw (lt-ltb (r .kind) 5 x))
 
-  pub none-mid : 8 ≤ r .kind → (r .kind ≡ 8 → ⊥) → r .kind < 18 → Places t j i 0
+  pub none-mid : 8 ≤ r .kind → (r .kind ≡ 8 → ⊥) → r .kind < 18 → Places pattern j i 0
   unfolding partsOf
   none-mid x n y = none (rw (le-ltb (r .kind) 5 (omega arith), le-ltb (r .kind) 8 x, ne-eqb (r .kind) 8 n, lt-ltb (r .kind) 18 y))
 
-  pub none-high : 20 ≤ r .kind → (r .kind ≡ 20 → ⊥) → Places t j i 0
+  pub none-high : 20 ≤ r .kind → (r .kind ≡ 20 → ⊥) → Places pattern j i 0
   unfolding partsOf
   none-high x n = none (rw (le-ltb (r .kind) 5 (omega arith), le-ltb (r .kind) 8 (omega arith), ne-eqb (r .kind) 8 (λ e. absurd (omega arith)), le-ltb (r .kind) 18 (omega arith), le-ltb (r .kind) 20 x, ne-eqb (r .kind) 20 n))
 
@@ -183,27 +183,27 @@ abbrev namesIn : List RowOf → List ℕ
 namesIn rows = each rows (λ l. namesOf (form l))
 
 -- the rows below j name row i at n places
-pub record Counting (t : List ℕ) (i n j : ℕ) : Type 0 where
-  pub upto : j ≤ length (rowsOf t)
+pub record Counting (pattern : List ℕ) (i n j : ℕ) : Type 0 where
+  pub upto : j ≤ length (rowsOf pattern)
   pub small : n ≤ 2 * j
-  pub is : times i (namesIn (rowsOf t)) ≡ n + times i (namesIn (drop j (rowsOf t)))
+  pub is : times i (namesIn (rowsOf pattern)) ≡ n + times i (namesIn (drop j (rowsOf pattern)))
 
-pub counting-none : (t : List ℕ) (i : ℕ) → Counting t i 0 0
-counting-none t i = record { upto = omega arith; small = omega arith; is = omega arith }
+pub counting-none : (pattern : List ℕ) (i : ℕ) → Counting pattern i 0 0
+counting-none pattern i = record { upto = omega arith; small = omega arith; is = omega arith }
 
-pub counting-more : (t : List ℕ) (i n j m rows : ℕ) → rows ≡ length t / 5 → Counting t i n j → j < rows → Places t j i m → Counting t i (n + m) (j + 1)
+pub counting-more : (pattern : List ℕ) (i n j m rows : ℕ) → rows ≡ length pattern / 5 → Counting pattern i n j → j < rows → Places pattern j i m → Counting pattern i (n + m) (j + 1)
 unfolding each formAt
-counting-more t i n j m rows q h l p =
-    let b : j < length (rowsOf t) = omega (arith, rows-length t) in
-    let e : times i (namesIn (drop j (rowsOf t))) ≡ m + times i (namesIn (drop (suc j) (rowsOf t))) =
-    ap (λ (x : List RowOf). times i (namesIn x)) (drop-cons (rowsOf t) j noRow b) ∙ times-append i (namesOf (formAt (rowsOf t) j)) (namesIn (drop (suc j) (rowsOf t))) ∙ ap (λ (x : ℕ). x + times i (namesIn (drop (suc j) (rowsOf t)))) (sym (p .is)) in
+counting-more pattern i n j m rows q h l p =
+    let b : j < length (rowsOf pattern) = omega (arith, rows-length pattern) in
+    let e : times i (namesIn (drop j (rowsOf pattern))) ≡ m + times i (namesIn (drop (suc j) (rowsOf pattern))) =
+    ap (λ (x : List RowOf). times i (namesIn x)) (drop-cons (rowsOf pattern) j noRow b) ∙ times-append i (namesOf (formAt (rowsOf pattern) j)) (namesIn (drop (suc j) (rowsOf pattern))) ∙ ap (λ (x : ℕ). x + times i (namesIn (drop (suc j) (rowsOf pattern)))) (sym (p .is)) in
     record { upto = omega arith; small = omega (arith, h .small, p .small); is = rw add-one (omega (arith, h .is, e)) }
 
-pub counting-all : (t : List ℕ) (i n j rows : ℕ) → rows ≡ length t / 5 → Counting t i n j → rows ≤ j → Named t i n
+pub counting-all : (pattern : List ℕ) (i n j rows : ℕ) → rows ≡ length pattern / 5 → Counting pattern i n j → rows ≤ j → Named pattern i n
 unfolding each times
-counting-all t i n j rows q h l =
-    let b : j ≡ length (rowsOf t) = omega (arith, rows-length t, h .upto) in
-    record { is = sym (h .is ∙ ap (λ (x : List RowOf). n + times i (namesIn x)) (ap (λ (x : ℕ). drop x (rowsOf t)) b ∙ drop-length (rowsOf t)) ∙ add-none n) }
+counting-all pattern i n j rows q h l =
+    let b : j ≡ length (rowsOf pattern) = omega (arith, rows-length pattern, h .upto) in
+    record { is = sym (h .is ∙ ap (λ (x : List RowOf). n + times i (namesIn x)) (ap (λ (x : ℕ). drop x (rowsOf pattern)) b ∙ drop-length (rowsOf pattern)) ∙ add-none n) }
   where
     add-none : (n : ℕ) → n + 0 ≡ n
     add-none n = omega arith
@@ -213,14 +213,14 @@ counting-all t i n j rows q h l =
     drop-length (x ∷ l) = drop-length l
 
 -- ------------------------------------------------------------------ loose
-pub loose-last : (t : List ℕ) (i : ℕ) (r : Row) (b : Bool) → i * 5 + 5 ≤ length t → Formed t → i + 1 ≡ length t / 5 → Reads t i r → b ≡ patternKind (r .kind) → not b ≡ fault13 (rowsOf t) i
+pub loose-last : (pattern : List ℕ) (i : ℕ) (r : Row) (b : Bool) → i * 5 + 5 ≤ length pattern → Formed pattern → i + 1 ≡ length pattern / 5 → Reads pattern i r → b ≡ patternKind (r .kind) → not b ≡ fault13 (rowsOf pattern) i
 unfolding fault13
-loose-last t i r b l f e d q =
-    let z : suc i ≡ length (rowsOf t) = omega (arith, rows-length t) in
-    ap not (q ∙ sym (fine-pattern t i r d (f .ok i (in-rows t i l)))) ∙ rw (eq-eqb (suc i) (length (rowsOf t)) z)
+loose-last pattern i r b l f e d q =
+    let z : suc i ≡ length (rowsOf pattern) = omega (arith, rows-length pattern) in
+    ap not (q ∙ sym (fine-pattern pattern i r d (f .ok i (in-rows pattern i l)))) ∙ rw (eq-eqb (suc i) (length (rowsOf pattern)) z)
 
-pub loose-named : (t : List ℕ) (i n : ℕ) → (i + 1 ≡ length t / 5 → ⊥) → Named t i n → not (eqb n 1) ≡ fault13 (rowsOf t) i
+pub loose-named : (pattern : List ℕ) (i n : ℕ) → (i + 1 ≡ length pattern / 5 → ⊥) → Named pattern i n → not (eqb n 1) ≡ fault13 (rowsOf pattern) i
 unfolding fault13
-loose-named t i n e k =
-    let z : suc i ≡ length (rowsOf t) → ⊥ = λ w. e (omega (arith, rows-length t)) in
-    ap (λ (x : ℕ). not (eqb x 1)) (k .is) ∙ rw (ne-eqb (suc i) (length (rowsOf t)) z)
+loose-named pattern i n e k =
+    let z : suc i ≡ length (rowsOf pattern) → ⊥ = λ w. e (omega (arith, rows-length pattern)) in
+    ap (λ (x : ℕ). not (eqb x 1)) (k .is) ∙ rw (ne-eqb (suc i) (length (rowsOf pattern)) z)

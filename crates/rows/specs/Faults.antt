@@ -11,10 +11,10 @@ pub record Tells (fault : ℕ → Bool) (i : ℕ) (r : Bool) : Type 0 where
   pub is : ((j : ℕ) → j < i → fault j ≡ false) → r ≡ fault i
 
 -- no row is malformed
-pub record Formed (t : List ℕ) : Type 0 where
-  pub ok : (i : ℕ) → i < length (rowsOf t) → fine (rowsOf t) i (formAt (rowsOf t) i) ≡ true
+pub record Formed (pattern : List ℕ) : Type 0 where
+  pub ok : (i : ℕ) → i < length (rowsOf pattern) → fine (rowsOf pattern) i (formAt (rowsOf pattern) i) ≡ true
 
 -- the row is a row of the table, and no row is malformed
-pub record Stands (t : List ℕ) (row : ℕ) : Type 0 where
-  pub room : row * 5 + 5 ≤ length t
-  pub formed : Formed t
+pub record Stands (pattern : List ℕ) (row : ℕ) : Type 0 where
+  pub room : row * 5 + 5 ≤ length pattern
+  pub formed : Formed pattern

@@ -16,10 +16,10 @@ pub record Twice (i p q r : ℕ) : Type 0 where
   pub small : r ≤ 2
 
 -- row j names row i at r places
-pub record Places (t : List ℕ) (j i r : ℕ) : Type 0 where
-  pub is : r ≡ times i (namesOf (formAt (rowsOf t) j))
+pub record Places (pattern : List ℕ) (j i r : ℕ) : Type 0 where
+  pub is : r ≡ times i (namesOf (formAt (rowsOf pattern) j))
   pub small : r ≤ 2
 
 -- row i is named at r places in all
-pub record Named (t : List ℕ) (i r : ℕ) : Type 0 where
-  pub is : r ≡ times i (each (rowsOf t) (λ l. namesOf (form l)))
+pub record Named (pattern : List ℕ) (i r : ℕ) : Type 0 where
+  pub is : r ≡ times i (each (rowsOf pattern) (λ l. namesOf (form l)))

@@ -17,8 +17,8 @@ abbrev pub rowOf : Row → RowOf
 rowOf r = record { kind = r .kind; p = r .p; q = r .q; r = r .r; s = r .s }
 
 -- r is row i of the table of these words
-pub record Reads (t : List ℕ) (i : ℕ) (r : Row) : Type 0 where
-  pub is : getD (rowsOf t) i noRow ≡ rowOf r
+pub record Reads (pattern : List ℕ) (i : ℕ) (r : Row) : Type 0 where
+  pub is : getD (rowsOf pattern) i noRow ≡ rowOf r
   pub kind-fits : r .kind < 65536
   pub p-fits : r .p < 65536
   pub q-fits : r .q < 65536

@@ -29,11 +29,11 @@ fn twice(i: usize, p: usize, q: usize) -> usize
 }
 
 // At how many places row j names row i.
-fn places(t: &[u16], j: usize, i: usize) -> usize
-    requires { ⌜ (j * 5 + 5 ≤ length (now t)) × Formed (now t) ⌝ }
-    ensures { λ r. ⌜ Places (now (t .entry)) j i r ⌝ }
+fn places(pattern: &[u16], j: usize, i: usize) -> usize
+    requires { ⌜ (j * 5 + 5 ≤ length (now pattern)) × Formed (now pattern) ⌝ }
+    ensures { λ r. ⌜ Places (now (pattern .entry)) j i r ⌝ }
 {
-    let r = row_at(t, j);
+    let r = row_at(pattern, j);
     let kind = r.kind;
     match kind {
         5..=7 => twice(i, r.p, r.q),
@@ -45,28 +45,28 @@ fn places(t: &[u16], j: usize, i: usize) -> usize
 }
 
 // At how many places row i is named.
-fn named(t: &[u16], i: usize) -> usize
-    requires { ⌜ (length (now t) ≤ 320) × Formed (now t) ⌝ }
-    ensures { λ r. ⌜ Named (now (t .entry)) i r ⌝ }
+fn named(pattern: &[u16], i: usize) -> usize
+    requires { ⌜ (length (now pattern) ≤ 320) × Formed (now pattern) ⌝ }
+    ensures { λ r. ⌜ Named (now (pattern .entry)) i r ⌝ }
 {
-    let rows = t.len() / 5;
+    let rows = pattern.len() / 5;
     let mut n: usize = 0;
     let mut j: usize = 0;
     while j < rows {
-        n += places(t, j, i);
+        n += places(pattern, j, i);
         j += 1;
     }
     n
 }
 
 // 13: a row but the last that is not named once, or a last row that is a condition.
-pub fn loose(t: &[u16], i: usize) -> bool
-    requires { ⌜ (i * 5 + 5 ≤ length (now t)) × (length (now t) ≤ 320) × Formed (now t) ⌝ }
-    ensures { λ r. ⌜ r ≡ fault13 (rowsOf (now (t .entry))) i ⌝ }
+pub fn loose(pattern: &[u16], i: usize) -> bool
+    requires { ⌜ (i * 5 + 5 ≤ length (now pattern)) × (length (now pattern) ≤ 320) × Formed (now pattern) ⌝ }
+    ensures { λ r. ⌜ r ≡ fault13 (rowsOf (now (pattern .entry))) i ⌝ }
 {
-    if i + 1 == t.len() / 5 {
-        let r = row_at(t, i);
+    if i + 1 == pattern.len() / 5 {
+        let r = row_at(pattern, i);
         return !is_pattern(r.kind);
     }
-    named(t, i) != 1
+    named(pattern, i) != 1
 }

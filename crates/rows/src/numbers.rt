@@ -17,9 +17,9 @@ ghost use Rattle.rows.specs.Uses.{Misused};
 ghost use Rattle.rows.specs.Faults.{Tells};
 
 // Whether a number of row i is outside what its use allows.
-fn misused(t: &[u16], i: usize, usage: u8, n: usize) -> bool
-    requires { ⌜ i * 5 + 5 ≤ length (now t) ⌝ }
-    ensures { λ r. ⌜ Misused (rowsOf (now (t .entry))) i usage n r ⌝ }
+fn misused(pattern: &[u16], i: usize, usage: u8, n: usize) -> bool
+    requires { ⌜ i * 5 + 5 ≤ length (now pattern) ⌝ }
+    ensures { λ r. ⌜ Misused (rowsOf (now (pattern .entry))) i usage n r ⌝ }
 {
     match usage {
         ZERO => n != 0,
@@ -29,14 +29,14 @@ fn misused(t: &[u16], i: usize, usage: u8, n: usize) -> bool
             if i <= n {
                 return true;
             }
-            let r = row_at(t, n);
+            let r = row_at(pattern, n);
             !is_pattern(r.kind)
         }
         TEST => {
             if i <= n {
                 return true;
             }
-            let r = row_at(t, n);
+            let r = row_at(pattern, n);
             !is_condition(r.kind)
         }
         GIVEN => n == 0 || 8 < n,
@@ -46,25 +46,25 @@ fn misused(t: &[u16], i: usize, usage: u8, n: usize) -> bool
 }
 
 // 12: a kind not listed, or a number that the kind does not allow.
-pub fn malformed(t: &[u16], i: usize) -> bool
-    requires { ⌜ i * 5 + 5 ≤ length (now t) ⌝ }
-    ensures { λ r. ⌜ Tells (fault12 (rowsOf (now (t .entry)))) i r ⌝ }
+pub fn malformed(pattern: &[u16], i: usize) -> bool
+    requires { ⌜ i * 5 + 5 ≤ length (now pattern) ⌝ }
+    ensures { λ r. ⌜ Tells (fault12 (rowsOf (now (pattern .entry)))) i r ⌝ }
 {
-    let r = row_at(t, i);
+    let r = row_at(pattern, i);
     let kind = r.kind;
     if 20 < kind {
         return true;
     }
-    if misused(t, i, use_of(kind, 0), r.p) {
+    if misused(pattern, i, use_of(kind, 0), r.p) {
         return true;
     }
-    if misused(t, i, use_of(kind, 1), r.q) {
+    if misused(pattern, i, use_of(kind, 1), r.q) {
         return true;
     }
-    if misused(t, i, use_of(kind, 2), r.r) {
+    if misused(pattern, i, use_of(kind, 2), r.r) {
         return true;
     }
-    if misused(t, i, use_of(kind, 3), r.s) {
+    if misused(pattern, i, use_of(kind, 3), r.s) {
         return true;
     }
     if kind == 8 {

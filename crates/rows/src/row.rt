@@ -15,16 +15,16 @@ pub struct Row {
 }
 
 // The five numbers of row i.
-pub fn row_at(t: &[u16], i: usize) -> Row
-    requires { ⌜ i * 5 + 5 ≤ length (now t) ⌝ }
-    ensures { λ r. ⌜ Reads (now (t .entry)) i r ⌝ }
+pub fn row_at(pattern: &[u16], i: usize) -> Row
+    requires { ⌜ i * 5 + 5 ≤ length (now pattern) ⌝ }
+    ensures { λ r. ⌜ Reads (now (pattern .entry)) i r ⌝ }
 {
     let at = i * 5;
-    let kind = wide(t[at]);
-    let p = wide(t[at + 1]);
-    let q = wide(t[at + 2]);
-    let r = wide(t[at + 3]);
-    let s = wide(t[at + 4]);
+    let kind = wide(pattern[at]);
+    let p = wide(pattern[at + 1]);
+    let q = wide(pattern[at + 2]);
+    let r = wide(pattern[at + 3]);
+    let s = wide(pattern[at + 4]);
     Row {
         kind: kind,
         p: p,

@@ -41,58 +41,58 @@ unfolding upFrom
 up-end zero i = let e : i + 0 ≡ i = omega arith in rw e
 up-end (suc n) i = let e : suc i + n ≡ i + suc n = omega arith in rw (up-end n (suc i), e)
 
-up-more : (t : List ℕ) (x : ℕ) → upTo t (x + 1) ≡ upTo t x ++ wordsOf t (x + 1)
+up-more : (pattern : List ℕ) (x : ℕ) → upTo pattern (x + 1) ≡ upTo pattern x ++ wordsOf pattern (x + 1)
 unfolding each
-up-more t x =
+up-more pattern x =
     let e : 1 + x ≡ x + 1 = omega arith in
-    ap (λ (n : ℕ). each (upFrom n 1) (wordsOf t)) (add-one x) ∙ ap (λ (l : List ℕ). each l (wordsOf t)) (up-end x 1) ∙ each-append (wordsOf t) (upFrom x 1) ((1 + x) ∷ []) ∙ rw (e, append-nil (wordsOf t (x + 1)))
+    ap (λ (n : ℕ). each (upFrom n 1) (wordsOf pattern)) (add-one x) ∙ ap (λ (l : List ℕ). each l (wordsOf pattern)) (up-end x 1) ∙ each-append (wordsOf pattern) (upFrom x 1) ((1 + x) ∷ []) ∙ rw (e, append-nil (wordsOf pattern (x + 1)))
 
-up-long : (t : List ℕ) (x : ℕ) → length (upTo t x) ≡ 6 * x
+up-long : (pattern : List ℕ) (x : ℕ) → length (upTo pattern x) ≡ 6 * x
 unfolding each upFrom
-up-long t zero = refl
-up-long t (suc x) = ap length (ap (upTo t) (sym (add-one x)) ∙ up-more t x) ∙ length-append (upTo t x) (wordsOf t (x + 1)) ∙ omega (arith, up-long t x, length-padded (foundWords (typeOf (patternOf t) (x + 1))))
+up-long pattern zero = refl
+up-long pattern (suc x) = ap length (ap (upTo pattern) (sym (add-one x)) ∙ up-more pattern x) ∙ length-append (upTo pattern x) (wordsOf pattern (x + 1)) ∙ omega (arith, up-long pattern x, length-padded (foundWords (typeOf (patternOf pattern) (x + 1))))
 
 -- the types of the variables 1 to x are written
-pub record Writing (t d₀ d : List ℕ) (x : ℕ) : Type 0 where
+pub record Writing (pattern d₀ d : List ℕ) (x : ℕ) : Type 0 where
   pub upto : x ≤ 8
   pub room : 48 ≤ length d₀
   pub same-long : length d ≡ length d₀
-  pub is : d ≡ upTo t x ++ drop (6 * x) d₀
+  pub is : d ≡ upTo pattern x ++ drop (6 * x) d₀
 
-pub writing-none : (t d : List ℕ) → 48 ≤ length d → Writing t d d 0
+pub writing-none : (pattern d : List ℕ) → 48 ≤ length d → Writing pattern d d 0
 unfolding each upFrom
-writing-none t d h = record { upto = omega arith; room = h; same-long = refl; is = refl }
+writing-none pattern d h = record { upto = omega arith; room = h; same-long = refl; is = refl }
 
-pub writing-more : (t d₀ d d' : List ℕ) (x root code : ℕ) → Checked t → root ≡ length t / 5 - 1 → Writing t d₀ d x → x < 8 → TypeIs t root (x + 1) code → d' ≡ take (6 * x) d ++ octal 6 code ++ drop (6 * x + 6) d → Writing t d₀ d' (x + 1)
-writing-more t d₀ d d' x root code k r w l h q =
-    let n = up-long t x in
-    let front : take (6 * x) d ≡ upTo t x = ap (take (6 * x)) (w .is) ∙ take-at (upTo t x) (drop (6 * x) d₀) (6 * x) n in
-    let back : drop (6 * x + 6) d ≡ drop (6 * x + 6) d₀ = ap (drop (6 * x + 6)) (w .is) ∙ ap (λ (m : ℕ). drop (m + 6) (upTo t x ++ drop (6 * x) d₀)) (sym n) ∙ drop-append-add (upTo t x) (drop (6 * x) d₀) 6 ∙ drop-drop 6 (6 * x) d₀ in
-    let digits : octal 6 code ≡ wordsOf t (x + 1) = ap (octal 6) (h .is ∙ ap (λ (i : ℕ). codeOf (plainAt t i (x + 1))) r ∙ ap codeOf (plain-root t (k .no-fault) (x + 1))) ∙ found-octal (typeOf (patternOf t) (x + 1)) (type-no-clash t (k .no-fault) (x + 1)) in
+pub writing-more : (pattern d₀ d d' : List ℕ) (x root code : ℕ) → Checked pattern → root ≡ length pattern / 5 - 1 → Writing pattern d₀ d x → x < 8 → TypeIs pattern root (x + 1) code → d' ≡ take (6 * x) d ++ octal 6 code ++ drop (6 * x + 6) d → Writing pattern d₀ d' (x + 1)
+writing-more pattern d₀ d d' x root code k r w l h q =
+    let n = up-long pattern x in
+    let front : take (6 * x) d ≡ upTo pattern x = ap (take (6 * x)) (w .is) ∙ take-at (upTo pattern x) (drop (6 * x) d₀) (6 * x) n in
+    let back : drop (6 * x + 6) d ≡ drop (6 * x + 6) d₀ = ap (drop (6 * x + 6)) (w .is) ∙ ap (λ (m : ℕ). drop (m + 6) (upTo pattern x ++ drop (6 * x) d₀)) (sym n) ∙ drop-append-add (upTo pattern x) (drop (6 * x) d₀) 6 ∙ drop-drop 6 (6 * x) d₀ in
+    let digits : octal 6 code ≡ wordsOf pattern (x + 1) = ap (octal 6) (h .is ∙ ap (λ (i : ℕ). codeOf (plainAt pattern i (x + 1))) r ∙ ap codeOf (plain-root pattern (k .no-fault) (x + 1))) ∙ found-octal (typeOf (patternOf pattern) (x + 1)) (type-no-clash pattern (k .no-fault) (x + 1)) in
     let s : 6 * x + 6 ≡ 6 * (x + 1) = omega arith in
-    let z : d' ≡ upTo t (x + 1) ++ drop (6 * (x + 1)) d₀ = q ∙ (rw (front, digits, back) refl) ∙ ap₂ (λ (a : List ℕ) (m : ℕ). a ++ drop m d₀) (sym (up-more t x)) s in
-    record { upto = omega arith; room = w .room; same-long = ap length z ∙ length-append (upTo t (x + 1)) (drop (6 * (x + 1)) d₀) ∙ omega (arith, up-long t (x + 1), length-drop (6 * (x + 1)) d₀, w .room); is = z }
+    let z : d' ≡ upTo pattern (x + 1) ++ drop (6 * (x + 1)) d₀ = q ∙ (rw (front, digits, back) refl) ∙ ap₂ (λ (a : List ℕ) (m : ℕ). a ++ drop m d₀) (sym (up-more pattern x)) s in
+    record { upto = omega arith; room = w .room; same-long = ap length z ∙ length-append (upTo pattern (x + 1)) (drop (6 * (x + 1)) d₀) ∙ omega (arith, up-long pattern (x + 1), length-drop (6 * (x + 1)) d₀, w .room); is = z }
 
-pub writing-all : (t d₀ d : List ℕ) (x : ℕ) → Writing t d₀ d x → 8 ≤ x → d ≡ over (typeWords (patternOf t)) d₀
+pub writing-all : (pattern d₀ d : List ℕ) (x : ℕ) → Writing pattern d₀ d x → 8 ≤ x → d ≡ over (typeWords (patternOf pattern)) d₀
 unfolding over typeWords eight upFrom
-writing-all t d₀ d x w l =
+writing-all pattern d₀ d x w l =
     let e : x ≡ 8 = omega (arith, w .upto) in
-    w .is ∙ ap (λ (n : ℕ). upTo t n ++ drop (6 * n) d₀) e ∙ ap (λ (m : ℕ). upTo t 8 ++ drop m d₀) (sym (up-long t 8))
+    w .is ∙ ap (λ (n : ℕ). upTo pattern n ++ drop (6 * n) d₀) e ∙ ap (λ (m : ℕ). upTo pattern 8 ++ drop m d₀) (sym (up-long pattern 8))
 
 -- ------------------------------------------------------------------ check_types
-module _ (t d : List ℕ) where
-  pub left-short : length d < 48 → TypesLeft t d d (Refused 17 0)
+module _ (pattern d : List ℕ) where
+  pub left-short : length d < 48 → TypesLeft pattern d d (Refused 17 0)
   unfolding causeOf
   left-short h = record { verdict-is = rw (lt-ltb (length d) 48 h); types-are = rw (lt-ltb (length d) 48 h) }
 
-  pub left-types : (a : List ℕ) (v : Verdict) → 48 ≤ length d → causeOf v ≡ patternFault t → v ≡ Accepted → a ≡ over (typeWords (patternOf t)) d → TypesLeft t d a v
+  pub left-types : (a : List ℕ) (v : Verdict) → 48 ≤ length d → causeOf v ≡ patternFault pattern → v ≡ Accepted → a ≡ over (typeWords (patternOf pattern)) d → TypesLeft pattern d a v
   unfolding causeOf typesOrZeros
   left-types a v h q e w =
-      let z : patternFault t ≡ none = sym q ∙ ap causeOf e in
-      record { verdict-is = q ∙ sym (ap (λ (b : Bool). if b then some (17, 0) else patternFault t) (le-ltb (length d) 48 h)); types-are = w ∙ sym (ap₂ (λ (b : Bool) (c : Cause). if b then d else over (typesOrZeros c t) d) (le-ltb (length d) 48 h) z) }
+      let z : patternFault pattern ≡ none = sym q ∙ ap causeOf e in
+      record { verdict-is = q ∙ sym (ap (λ (b : Bool). if b then some (17, 0) else patternFault pattern) (le-ltb (length d) 48 h)); types-are = w ∙ sym (ap₂ (λ (b : Bool) (c : Cause). if b then d else over (typesOrZeros c pattern) d) (le-ltb (length d) 48 h) z) }
 
-  pub left-zeros : (a : List ℕ) (v : Verdict) (n i : ℕ) → 48 ≤ length d → causeOf v ≡ patternFault t → v ≡ Refused n i → a ≡ cleared 48 d → TypesLeft t d a v
+  pub left-zeros : (a : List ℕ) (v : Verdict) (n i : ℕ) → 48 ≤ length d → causeOf v ≡ patternFault pattern → v ≡ Refused n i → a ≡ cleared 48 d → TypesLeft pattern d a v
   unfolding causeOf typesOrZeros over cleared
   left-zeros a v n i h q e w =
-      let z : patternFault t ≡ some (n, i) = sym q ∙ ap causeOf e in
-      record { verdict-is = q ∙ sym (ap (λ (b : Bool). if b then some (17, 0) else patternFault t) (le-ltb (length d) 48 h)); types-are = w ∙ sym (ap₂ (λ (b : Bool) (c : Cause). if b then d else over (typesOrZeros c t) d) (le-ltb (length d) 48 h) z) }
+      let z : patternFault pattern ≡ some (n, i) = sym q ∙ ap causeOf e in
+      record { verdict-is = q ∙ sym (ap (λ (b : Bool). if b then some (17, 0) else patternFault pattern) (le-ltb (length d) 48 h)); types-are = w ∙ sym (ap₂ (λ (b : Bool) (c : Cause). if b then d else over (typesOrZeros c pattern) d) (le-ltb (length d) 48 h) z) }

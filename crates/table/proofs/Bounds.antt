@@ -8,7 +8,7 @@ use borrow.Author.Tests.{eqb-true, eqb-false}
 use Rattle.meaning.proofs.TypeWords.{max-l, max-r}
 use Rattle.meaning.specs.Basics.{max}
 use Rattle.meaning.specs.Pattern.{Pattern, node, edge, union, concatenation, conditioned, repetition, named, nesting}
-use Rattle.meaning.specs.Typing.{Ty, Ty-discrete, Node, Edge, Maybe, Group, Found, absent, clash, typed, opt, meet, unionTy, concatenationTy, repetitionTy, namedTy}
+use Rattle.meaning.specs.Typing.{Ty, Ty-discrete, Node, Edge, Maybe, Group, Found, absent, clash, typed, opt, joinTy, unionTy, concatenationTy, repetitionTy, namedTy}
 use Rattle.typecode.specs.Codes.{tyCode, codeOf}
 use Rattle.table.specs.Typing.{plainOf}
 
@@ -61,8 +61,8 @@ opt-held n Edge h = omega (arith, h)
 opt-held n (Maybe τ) h = h
 opt-held n (Group τ) h = omega (arith, h)
 
-meet-held : (n : ℕ) (τ σ : Ty) (d₁ : Dec (τ ≡ σ)) (d₂ : Dec (σ ≡ Maybe τ)) (d₃ : Dec (τ ≡ Maybe σ)) → Fits n τ → Fits n σ → Held n (meet τ σ d₁ d₂ d₃)
-unfolding meet
+meet-held : (n : ℕ) (τ σ : Ty) (d₁ : Dec (τ ≡ σ)) (d₂ : Dec (σ ≡ Maybe τ)) (d₃ : Dec (τ ≡ Maybe σ)) → Fits n τ → Fits n σ → Held n (joinTy τ σ d₁ d₂ d₃)
+unfolding joinTy
 meet-held n τ σ (yes p) d₂ d₃ h k = h
 meet-held n τ σ (no p) (yes q) d₃ h k = k
 meet-held n τ σ (no p) (no q) (yes r) h k = h

@@ -43,8 +43,8 @@ one-is x h = record { is = e; small = rw e (small x h) }
     small (suc (suc (suc (suc (suc (suc (suc (suc zero)))))))) h = omega arith
     small (suc (suc (suc (suc (suc (suc (suc (suc (suc n))))))))) h = absurd (omega arith)
 
-pub type-found : (t : List ℕ) (row x a : ℕ) → Within t row → TypeIs t row x a → HasType t row x a
-type-found t row x a w h = record { is = h .is ∙ ap codeOf (plain-checked t (w .accepted) row (w .room) x); small = h .small }
+pub type-found : (pattern : List ℕ) (row x a : ℕ) → Within pattern row → TypeIs pattern row x a → HasType pattern row x a
+type-found pattern row x a w h = record { is = h .is ∙ ap codeOf (plain-checked pattern (w .accepted) row (w .room) x); small = h .small }
 
 absent-is : (f : Found) → codeOf f ≡ 0 → f ≡ absent
 unfolding codeOf
@@ -52,43 +52,43 @@ absent-is absent e = refl
 absent-is clash e = absurd (omega arith)
 absent-is (typed τ) e = absurd (omega (arith, ty-some τ))
 
-module _ (t : List ℕ) (row x a : ℕ) (h : HasType t row x a) where
-  pub weight-none : a ≡ 0 → Weight t row x 0
+module _ (pattern : List ℕ) (row x a : ℕ) (h : HasType pattern row x a) where
+  pub weight-none : a ≡ 0 → Weight pattern row x 0
   unfolding bit
   weight-none e =
-      let n : inVar (patternAt t row) x ≡ false = absent→unused (patternAt t row) x (absent-is (typeOf (patternAt t row) x) (sym (h .is) ∙ e)) in
+      let n : inVar (patternAt pattern row) x ≡ false = absent→unused (patternAt pattern row) x (absent-is (typeOf (patternAt pattern row) x) (sym (h .is) ∙ e)) in
       record { is = rw n (omega arith); small = omega arith }
 
-  pub weight-one : (r : ℕ) → (a ≡ 0 → ⊥) → One x r → Weight t row x r
+  pub weight-one : (r : ℕ) → (a ≡ 0 → ⊥) → One x r → Weight pattern row x r
   unfolding bit codeOf
-  weight-one r n o = record { is = o .is ∙ go (inVar (patternAt t row) x) refl; small = o .small }
+  weight-one r n o = record { is = o .is ∙ go (inVar (patternAt pattern row) x) refl; small = o .small }
     where
-      go : (b : Bool) → inVar (patternAt t row) x ≡ b → 2 ^ x ≡ bit (inVar (patternAt t row) x) * 2 ^ x
+      go : (b : Bool) → inVar (patternAt pattern row) x ≡ b → 2 ^ x ≡ bit (inVar (patternAt pattern row) x) * 2 ^ x
       go true e = rw e (sym (one-mul (2 ^ x)))
-      go false e = absurd (n (h .is ∙ ap codeOf (unused→absent (patternAt t row) x e)))
+      go false e = absurd (n (h .is ∙ ap codeOf (unused→absent (patternAt pattern row) x e)))
 
 -- ------------------------------------------------------------------ row_variables
-pub record Gathering (t : List ℕ) (row mask x : ℕ) : Type 0 where
+pub record Gathering (pattern : List ℕ) (row mask x : ℕ) : Type 0 where
   pub low : 1 ≤ x
   pub high : x ≤ 9
   pub small : mask ≤ 256 * x
-  pub is : variablesAt t row ≡ mask + maskOf (patternAt t row) (from x)
+  pub is : variablesAt pattern row ≡ mask + maskOf (patternAt pattern row) (from x)
 
-pub gathering-none : (t : List ℕ) (row : ℕ) → Gathering t row 0 1
+pub gathering-none : (pattern : List ℕ) (row : ℕ) → Gathering pattern row 0 1
 unfolding variablesAt eight
-gathering-none t row = record { low = omega arith; high = omega arith; small = omega arith; is = omega arith }
+gathering-none pattern row = record { low = omega arith; high = omega arith; small = omega arith; is = omega arith }
 
-pub gathering-more : (t : List ℕ) (row mask x w : ℕ) → Gathering t row mask x → x < 9 → Weight t row x w → Gathering t row (mask + w) (x + 1)
+pub gathering-more : (pattern : List ℕ) (row mask x w : ℕ) → Gathering pattern row mask x → x < 9 → Weight pattern row x w → Gathering pattern row (mask + w) (x + 1)
 unfolding maskOf
-gathering-more t row mask x w g l h =
-    let e : maskOf (patternAt t row) (from x) ≡ bit (inVar (patternAt t row) x) * 2 ^ x + maskOf (patternAt t row) (from (x + 1)) = ap (maskOf (patternAt t row)) (from-next x (g .low) l) in
+gathering-more pattern row mask x w g l h =
+    let e : maskOf (patternAt pattern row) (from x) ≡ bit (inVar (patternAt pattern row) x) * 2 ^ x + maskOf (patternAt pattern row) (from (x + 1)) = ap (maskOf (patternAt pattern row)) (from-next x (g .low) l) in
     record { low = omega arith; high = omega arith; small = omega (arith, g .small, h .small); is = omega (arith, g .is, e, h .is) }
 
-pub gathering-all : (t : List ℕ) (row mask x : ℕ) → Gathering t row mask x → 9 ≤ x → HasVariables t row mask
+pub gathering-all : (pattern : List ℕ) (row mask x : ℕ) → Gathering pattern row mask x → 9 ≤ x → HasVariables pattern row mask
 unfolding maskOf
-gathering-all t row mask x g l =
+gathering-all pattern row mask x g l =
     let e : x ≡ 9 = omega (arith, g .high) in
-    let z : maskOf (patternAt t row) (from x) ≡ 0 = ap (λ (y : ℕ). maskOf (patternAt t row) (from y)) e in
+    let z : maskOf (patternAt pattern row) (from x) ≡ 0 = ap (λ (y : ℕ). maskOf (patternAt pattern row) (from y)) e in
     record { is = omega (arith, g .is, z) }
 
 -- ------------------------------------------------------------------ a list filled from its front
@@ -124,12 +124,12 @@ tabled-more f n d₀ d i v k l e =
 pub tabled-all : (f : ℕ → ℕ) (n : ℕ) (d₀ d : List ℕ) (i : ℕ) → Tabled f n d₀ d i → n ≤ i → d ≡ listOf f n ++ drop n d₀
 tabled-all f n d₀ d i k l = let e : i ≡ n = omega (arith, k .upto) in k .is ∙ ap (λ (j : ℕ). listOf f j ++ drop j d₀) e
 
-pub variables-more : (t : List ℕ) (n : ℕ) (d₀ d : List ℕ) (i v : ℕ) → Tabled (variablesAt t) n d₀ d i → i < n → HasVariables t i v → Tabled (variablesAt t) n d₀ (set d i v) (i + 1)
-variables-more t n d₀ d i v k l h = tabled-more (variablesAt t) n d₀ d i v k l (h .is)
+pub variables-more : (pattern : List ℕ) (n : ℕ) (d₀ d : List ℕ) (i v : ℕ) → Tabled (variablesAt pattern) n d₀ d i → i < n → HasVariables pattern i v → Tabled (variablesAt pattern) n d₀ (set d i v) (i + 1)
+variables-more pattern n d₀ d i v k l h = tabled-more (variablesAt pattern) n d₀ d i v k l (h .is)
 
-pub types-more : (t : List ℕ) (n : ℕ) (d₀ d : List ℕ) (i v : ℕ) → Tabled (typeAt t) n d₀ d i → i < n → HasType t (i / 8) (i % 8 + 1) v → Tabled (typeAt t) n d₀ (set d i v) (i + 1)
+pub types-more : (pattern : List ℕ) (n : ℕ) (d₀ d : List ℕ) (i v : ℕ) → Tabled (typeAt pattern) n d₀ d i → i < n → HasType pattern (i / 8) (i % 8 + 1) v → Tabled (typeAt pattern) n d₀ (set d i v) (i + 1)
 unfolding typeAt
-types-more t n d₀ d i v k l h = tabled-more (typeAt t) n d₀ d i v k l (h .is)
+types-more pattern n d₀ d i v k l h = tabled-more (typeAt pattern) n d₀ d i v k l (h .is)
 
 -- ------------------------------------------------------------------ what a reader finds
 pub list-at : (f : ℕ → ℕ) (n i : ℕ) (d : List ℕ) → i < n → getD (listOf f n ++ d) i 0 ≡ f i
@@ -144,9 +144,9 @@ list-at f (suc n) i d h = go (eqb i n) refl (λ k. list-at f n i ((f n ∷ []) +
     go false e ih = let z : i ≡ n → ⊥ = eqb-false i n e in ap (λ (l : List ℕ). getD l i 0) step ∙ ih (omega arith)
 
 -- the type of variable x of row i stands at 8 * i + x - 1
-pub type-stands : (t : List ℕ) (i x : ℕ) → 1 ≤ x → x < 9 → typeAt t (8 * i + (x - 1)) ≡ codeOf (typeOf (patternAt t i) x)
+pub type-stands : (pattern : List ℕ) (i x : ℕ) → 1 ≤ x → x < 9 → typeAt pattern (8 * i + (x - 1)) ≡ codeOf (typeOf (patternAt pattern i) x)
 unfolding typeAt
-type-stands t i x l h =
+type-stands pattern i x l h =
     let a : (8 * i + (x - 1)) / 8 ≡ i = omega arith in
     let b : (8 * i + (x - 1)) % 8 + 1 ≡ x = omega arith in
     rw (a, b)

@@ -12,19 +12,19 @@ use Rattle.rows.specs.Faults.{Stands}
 use Rattle.table.proofs.AcceptedTable.{accepted-checked, accepted-pattern, stands-checked}
 use Rattle.table.specs.Variables.{patternAt}
 
-module _ (t : List ℕ) (ok : patternFault t ≡ none) where
-  pub root-long : 5 ≤ length t
-  root-long = accepted-checked t ok .long
+module _ (pattern : List ℕ) (ok : patternFault pattern ≡ none) where
+  pub root-long : 5 ≤ length pattern
+  root-long = accepted-checked pattern ok .long
 
-  pub root-room : (length t / 5 - 1) * 5 + 5 ≤ length t
+  pub root-room : (length pattern / 5 - 1) * 5 + 5 ≤ length pattern
   root-room = omega (arith, root-long)
 
-  pub root-stands : Stands t (length t / 5 - 1)
-  root-stands = stands-checked t (length t / 5 - 1) (accepted-checked t ok) root-room
+  pub root-stands : Stands pattern (length pattern / 5 - 1)
+  root-stands = stands-checked pattern (length pattern / 5 - 1) (accepted-checked pattern ok) root-room
 
-  pub root-pattern : patternAt t (length t / 5 - 1) ≡ patternOf t
+  pub root-pattern : patternAt pattern (length pattern / 5 - 1) ≡ patternOf pattern
   unfolding patternOf tablePattern
-  root-pattern = ap (patternAt t) (omega (arith, rows-length t))
+  root-pattern = ap (patternAt pattern) (omega (arith, rows-length pattern))
 
-  pub root-accepted : Accepted (patternOf t)
-  root-accepted = accepted-pattern t (accepted-checked t ok)
+  pub root-accepted : Accepted (patternOf pattern)
+  root-accepted = accepted-pattern pattern (accepted-checked pattern ok)

@@ -8,7 +8,7 @@ use native.Mathlib.Omega.{arith}
 use lib.Dec.{eqb}
 use lib.ListN.{length}
 use borrow.Author.Tests.{eq-eqb, ne-eqb, eqb-true, eqb-false, lt-ltb, le-ltb}
-use Rattle.meaning.specs.Basics.{if_then_else_, Cause, firstOf, whole, atRow, lowest}
+use Rattle.meaning.specs.Basics.{if_then_else_, Cause, firstOf, rowless, atRow, lowest}
 use Rattle.meaning.specs.Table.{rowsOf, fault12, fault13, fault14, fault15, fault16, rowCause, tableFault, badLength, patternFault}
 use Rattle.meaning.specs.Table.{Row as RowOf}
 use Rattle.meaning.proofs.Logic.{no-true}
@@ -23,17 +23,17 @@ use Rattle.table.specs.declared.causes.Verdict.the-variants.{Accepted, R
 use Rattle.rows.proofs.Rows.{formed-by, rows-length}
 
 -- ------------------------------------------------------------------ faulty
-module _ (n : ℕ) (t : List ℕ) (i : ℕ) (h : Ready n t) (l : i * 5 + 5 ≤ length t) where
-  pub formed-13 : n ≡ 13 → Formed t
+module _ (n : ℕ) (pattern : List ℕ) (i : ℕ) (h : Ready n pattern) (l : i * 5 + 5 ≤ length pattern) where
+  pub formed-13 : n ≡ 13 → Formed pattern
   formed-13 e = h .formed (omega arith)
 
-  pub stands-14 : n ≡ 14 → Stands t i
+  pub stands-14 : n ≡ 14 → Stands pattern i
   stands-14 e = record { room = l; formed = h .formed (omega arith) }
 
-  pub stands-15 : n ≡ 15 → Stands t i
+  pub stands-15 : n ≡ 15 → Stands pattern i
   stands-15 e = record { room = l; formed = h .formed (omega arith) }
 
-  pub typable-16 : (n ≡ 12 → ⊥) → (n ≡ 13 → ⊥) → (n ≡ 14 → ⊥) → (n ≡ 15 → ⊥) → Typable t i
+  pub typable-16 : (n ≡ 12 → ⊥) → (n ≡ 13 → ⊥) → (n ≡ 14 → ⊥) → (n ≡ 15 → ⊥) → Typable pattern i
   typable-16 a b c d = let k = h .least in record { stands = record { room = l; formed = h .formed (omega arith) }; shallow = h .shallow (omega arith) }
 
 module _ (n : ℕ) (rows : List RowOf) (i : ℕ) (b : Bool) where
@@ -69,28 +69,28 @@ lowest-clear n f h = go (lowest n 0 f) refl
     go none e = refl
     go (some k) e = let z = lowest-some n 0 f k e in no-true (sym (z .2) ∙ h k (omega (arith, z .1)))
 
-module _ (m : ℕ) (t : List ℕ) where
+module _ (m : ℕ) (pattern : List ℕ) where
   abbrev F : ℕ → Bool
-  F = faultBy m (rowsOf t)
+  F = faultBy m (rowsOf pattern)
 
-  pub scan-none : Scanning F (length (rowsOf t)) 0
+  pub scan-none : Scanning F (length (rowsOf pattern)) 0
   scan-none = record { upto = omega arith; clean = λ j k. absurd (omega arith) }
 
-  module _ (i rows : ℕ) (e : rows ≡ length t / 5) (s : Scanning F (length (rowsOf t)) i) where
-    pub scan-more : (b : Bool) → i < rows → Tells F i b → b ≡ false → Scanning F (length (rowsOf t)) (i + 1)
-    scan-more b l h n = record { upto = omega (arith, rows-length t); clean = λ j k. at j k (eqb j i) refl }
+  module _ (i rows : ℕ) (e : rows ≡ length pattern / 5) (s : Scanning F (length (rowsOf pattern)) i) where
+    pub scan-more : (b : Bool) → i < rows → Tells F i b → b ≡ false → Scanning F (length (rowsOf pattern)) (i + 1)
+    scan-more b l h n = record { upto = omega (arith, rows-length pattern); clean = λ j k. at j k (eqb j i) refl }
       where
         at : (j : ℕ) → j < i + 1 → (c : Bool) → eqb j i ≡ c → F j ≡ false
         at j k true q = ap F (eqb-true j i q) ∙ sym (h .is (s .clean)) ∙ n
         at j k false q = let z : j ≡ i → ⊥ = eqb-false j i q in s .clean j (omega arith)
 
-    pub scan-hit : (b : Bool) → i < rows → Tells F i b → b ≡ true → causeOf (Refused m i) ≡ rowCause (rowsOf t) m F
+    pub scan-hit : (b : Bool) → i < rows → Tells F i b → b ≡ true → causeOf (Refused m i) ≡ rowCause (rowsOf pattern) m F
     unfolding causeOf rowCause atRow
-    scan-hit b l h y = sym (ap (atRow m) (lowest-found (length (rowsOf t)) 0 F i (omega arith) (omega (arith, rows-length t)) (sym (h .is (s .clean)) ∙ y) (λ j a k. s .clean j k)))
+    scan-hit b l h y = sym (ap (atRow m) (lowest-found (length (rowsOf pattern)) 0 F i (omega arith) (omega (arith, rows-length pattern)) (sym (h .is (s .clean)) ∙ y) (λ j a k. s .clean j k)))
 
-    pub scan-end : rows ≤ i → causeOf Accepted ≡ rowCause (rowsOf t) m F
+    pub scan-end : rows ≤ i → causeOf Accepted ≡ rowCause (rowsOf pattern) m F
     unfolding causeOf rowCause atRow
-    scan-end l = sym (ap (atRow m) (lowest-clear (length (rowsOf t)) F (λ j k. s .clean j (omega (arith, rows-length t)))))
+    scan-end l = sym (ap (atRow m) (lowest-clear (length (rowsOf pattern)) F (λ j k. s .clean j (omega (arith, rows-length pattern)))))
 
 -- ------------------------------------------------------------------ check_rows
 by-five : (P : ℕ → Type 0) → P 12 → P 13 → P 14 → P 15 → P 16 → (n : ℕ) → 12 ≤ n → n < 17 → P n
@@ -128,66 +128,66 @@ unfolding causesFrom faultBy tableFault
 causes-step t = by-five (λ n. causesFrom t n ≡ firstOf (rowCause t n (faultBy n t)) (causesFrom t (n + 1))) refl refl refl refl (first-last (rowCause t 16 (fault16 t)))
 
 -- the causes from 12 up to n were tried and do not hold
-pub record Trying (t : List ℕ) (n : ℕ) : Type 0 where
+pub record Trying (pattern : List ℕ) (n : ℕ) : Type 0 where
   pub high : n ≤ 17
-  pub ready : Ready n t
-  pub same : tableFault (rowsOf t) ≡ causesFrom (rowsOf t) n
+  pub ready : Ready n pattern
+  pub same : tableFault (rowsOf pattern) ≡ causesFrom (rowsOf pattern) n
 
-pub trying-first : (t : List ℕ) → Trying t 12
+pub trying-first : (pattern : List ℕ) → Trying pattern 12
 unfolding causesFrom
-trying-first t = record { high = omega arith; ready = record { least = omega arith; formed = λ h. absurd (omega arith); shallow = λ h. absurd (omega arith) }; same = refl }
+trying-first pattern = record { high = omega arith; ready = record { least = omega arith; formed = λ h. absurd (omega arith); shallow = λ h. absurd (omega arith) }; same = refl }
 
 -- 15 found nothing: no row is too deep
-pub shallow-by : (t : List ℕ) → Formed t → rowCause (rowsOf t) 15 (fault15 (rowsOf t)) ≡ none → Shallow t
-shallow-by t f e = record { ok = deep-all (rowsOf t) (f .ok) (clear (rowsOf t) 15 (fault15 (rowsOf t)) e) }
+pub shallow-by : (pattern : List ℕ) → Formed pattern → rowCause (rowsOf pattern) 15 (fault15 (rowsOf pattern)) ≡ none → Shallow pattern
+shallow-by pattern f e = record { ok = deep-all (rowsOf pattern) (f .ok) (clear (rowsOf pattern) 15 (fault15 (rowsOf pattern)) e) }
 
-ready-next : (t : List ℕ) (n : ℕ) → 12 ≤ n → n < 17 → Ready n t → rowCause (rowsOf t) n (faultBy n (rowsOf t)) ≡ none → Ready (n + 1) t
+ready-next : (pattern : List ℕ) (n : ℕ) → 12 ≤ n → n < 17 → Ready n pattern → rowCause (rowsOf pattern) n (faultBy n (rowsOf pattern)) ≡ none → Ready (n + 1) pattern
 unfolding faultBy
-ready-next t = by-five (λ n. Ready n t → rowCause (rowsOf t) n (faultBy n (rowsOf t)) ≡ none → Ready (n + 1) t)
-    (λ r e. record { least = omega arith; formed = λ h. formed-by t e; shallow = λ h. absurd (omega arith) })
+ready-next pattern = by-five (λ n. Ready n pattern → rowCause (rowsOf pattern) n (faultBy n (rowsOf pattern)) ≡ none → Ready (n + 1) pattern)
+    (λ r e. record { least = omega arith; formed = λ h. formed-by pattern e; shallow = λ h. absurd (omega arith) })
     (λ r e. record { least = omega arith; formed = λ h. r .formed (omega arith); shallow = λ h. absurd (omega arith) })
     (λ r e. record { least = omega arith; formed = λ h. r .formed (omega arith); shallow = λ h. absurd (omega arith) })
-    (λ r e. record { least = omega arith; formed = λ h. r .formed (omega arith); shallow = λ h. shallow-by t (r .formed (omega arith)) e })
+    (λ r e. record { least = omega arith; formed = λ h. r .formed (omega arith); shallow = λ h. shallow-by pattern (r .formed (omega arith)) e })
     (λ r e. record { least = omega arith; formed = λ h. r .formed (omega arith); shallow = λ h. r .shallow (omega arith) })
 
-module _ (t : List ℕ) (n : ℕ) (v : Verdict) (k : Trying t n) (q : causeOf v ≡ rowCause (rowsOf t) n (faultBy n (rowsOf t))) where
-  step : n < 17 → tableFault (rowsOf t) ≡ firstOf (causeOf v) (causesFrom (rowsOf t) (n + 1))
-  step l = k .same ∙ causes-step (rowsOf t) n (k .ready .least) l ∙ ap (λ (c : Cause). firstOf c (causesFrom (rowsOf t) (n + 1))) (sym q)
+module _ (pattern : List ℕ) (n : ℕ) (v : Verdict) (k : Trying pattern n) (q : causeOf v ≡ rowCause (rowsOf pattern) n (faultBy n (rowsOf pattern))) where
+  step : n < 17 → tableFault (rowsOf pattern) ≡ firstOf (causeOf v) (causesFrom (rowsOf pattern) (n + 1))
+  step l = k .same ∙ causes-step (rowsOf pattern) n (k .ready .least) l ∙ ap (λ (c : Cause). firstOf c (causesFrom (rowsOf pattern) (n + 1))) (sym q)
 
-  pub trying-more : n < 17 → v ≡ Accepted → Trying t (n + 1)
+  pub trying-more : n < 17 → v ≡ Accepted → Trying pattern (n + 1)
   unfolding causeOf firstOf
   trying-more l e = record {
     high = omega arith;
-    ready = ready-next t n (k .ready .least) l (k .ready) (sym q ∙ ap causeOf e);
-    same = step l ∙ ap (λ (w : Verdict). firstOf (causeOf w) (causesFrom (rowsOf t) (n + 1))) e;
+    ready = ready-next pattern n (k .ready .least) l (k .ready) (sym q ∙ ap causeOf e);
+    same = step l ∙ ap (λ (w : Verdict). firstOf (causeOf w) (causesFrom (rowsOf pattern) (n + 1))) e;
   }
 
-  pub trying-found : (a b : ℕ) → n < 17 → v ≡ Refused a b → causeOf v ≡ tableFault (rowsOf t)
+  pub trying-found : (a b : ℕ) → n < 17 → v ≡ Refused a b → causeOf v ≡ tableFault (rowsOf pattern)
   unfolding causeOf firstOf
-  trying-found a b l e = ap causeOf e ∙ sym (step l ∙ ap (λ (w : Verdict). firstOf (causeOf w) (causesFrom (rowsOf t) (n + 1))) e)
+  trying-found a b l e = ap causeOf e ∙ sym (step l ∙ ap (λ (w : Verdict). firstOf (causeOf w) (causesFrom (rowsOf pattern) (n + 1))) e)
 
-pub trying-all : (t : List ℕ) (n : ℕ) → Trying t n → 17 ≤ n → causeOf Accepted ≡ tableFault (rowsOf t)
+pub trying-all : (pattern : List ℕ) (n : ℕ) → Trying pattern n → 17 ≤ n → causeOf Accepted ≡ tableFault (rowsOf pattern)
 unfolding causeOf causesFrom
-trying-all t n k l = let e : n ≡ 17 = omega (arith, k .high) in sym (k .same ∙ ap (causesFrom (rowsOf t)) e)
+trying-all pattern n k l = let e : n ≡ 17 = omega (arith, k .high) in sym (k .same ∙ ap (causesFrom (rowsOf pattern)) e)
 
 -- ------------------------------------------------------------------ check
-module _ (t : List ℕ) where
-  length-bad : badLength t ≡ true → causeOf (Refused 11 0) ≡ patternFault t
-  unfolding patternFault causeOf whole firstOf
-  length-bad e = sym (ap (λ (b : Bool). firstOf (whole 11 b) (tableFault (rowsOf t))) e)
+module _ (pattern : List ℕ) where
+  length-bad : badLength pattern ≡ true → causeOf (Refused 11 0) ≡ patternFault pattern
+  unfolding patternFault causeOf rowless firstOf
+  length-bad e = sym (ap (λ (b : Bool). firstOf (rowless 11 b) (tableFault (rowsOf pattern))) e)
 
-  pub check-partial : (length t % 5 ≡ 0 → ⊥) → causeOf (Refused 11 0) ≡ patternFault t
+  pub check-partial : (length pattern % 5 ≡ 0 → ⊥) → causeOf (Refused 11 0) ≡ patternFault pattern
   unfolding badLength
-  check-partial n = length-bad (rw (ne-eqb (length t % 5) 0 n))
+  check-partial n = length-bad (rw (ne-eqb (length pattern % 5) 0 n))
 
-  pub check-empty : length t % 5 ≡ 0 → length t ≡ 0 → causeOf (Refused 11 0) ≡ patternFault t
+  pub check-empty : length pattern % 5 ≡ 0 → length pattern ≡ 0 → causeOf (Refused 11 0) ≡ patternFault pattern
   unfolding badLength
-  check-empty e z = length-bad (rw (eq-eqb (length t % 5) 0 e, eq-eqb (length t) 0 z))
+  check-empty e z = length-bad (rw (eq-eqb (length pattern % 5) 0 e, eq-eqb (length pattern) 0 z))
 
-  pub check-long : length t % 5 ≡ 0 → (length t ≡ 0 → ⊥) → 320 < length t → causeOf (Refused 11 0) ≡ patternFault t
+  pub check-long : length pattern % 5 ≡ 0 → (length pattern ≡ 0 → ⊥) → 320 < length pattern → causeOf (Refused 11 0) ≡ patternFault pattern
   unfolding badLength
-  check-long e n l = length-bad (rw (eq-eqb (length t % 5) 0 e, ne-eqb (length t) 0 n, lt-ltb 320 (length t) l))
+  check-long e n l = length-bad (rw (eq-eqb (length pattern % 5) 0 e, ne-eqb (length pattern) 0 n, lt-ltb 320 (length pattern) l))
 
-  pub check-table : (v : Verdict) → length t % 5 ≡ 0 → (length t ≡ 0 → ⊥) → length t ≤ 320 → causeOf v ≡ tableFault (rowsOf t) → causeOf v ≡ patternFault t
-  unfolding patternFault badLength whole firstOf
-  check-table v e n l q = q ∙ sym (rw (eq-eqb (length t % 5) 0 e, ne-eqb (length t) 0 n, le-ltb 320 (length t) l))
+  pub check-table : (v : Verdict) → length pattern % 5 ≡ 0 → (length pattern ≡ 0 → ⊥) → length pattern ≤ 320 → causeOf v ≡ tableFault (rowsOf pattern) → causeOf v ≡ patternFault pattern
+  unfolding patternFault badLength rowless firstOf
+  check-table v e n l q = q ∙ sym (rw (eq-eqb (length pattern % 5) 0 e, ne-eqb (length pattern) 0 n, le-ltb 320 (length pattern) l))

@@ -10,13 +10,13 @@ use Rattle.meaning.specs.Table.{Row, rowsOf, itemAt, asPattern, fault12, fault1
 use Rattle.rows.specs.Faults.{Formed, Stands}
 
 -- no row has more than two repetitions one in another
-pub record Shallow (t : List ℕ) : Type 0 where
-  pub ok : (i : ℕ) → i < length (rowsOf t) → nesting (asPattern (itemAt (rowsOf t) i)) ≤ 2
+pub record Shallow (pattern : List ℕ) : Type 0 where
+  pub ok : (i : ℕ) → i < length (rowsOf pattern) → nesting (asPattern (itemAt (rowsOf pattern) i)) ≤ 2
 
 -- the row is a row of a table that is ready to be typed
-pub record Typable (t : List ℕ) (row : ℕ) : Type 0 where
-  pub stands : Stands t row
-  pub shallow : Shallow t
+pub record Typable (pattern : List ℕ) (row : ℕ) : Type 0 where
+  pub stands : Stands pattern row
+  pub shallow : Shallow pattern
 
 -- the fault of a number from 12 to 16
 unfoldable pub faultBy : ℕ → List Row → ℕ → Bool
@@ -27,7 +27,7 @@ faultBy n rows =
     if eqb n 15 then fault15 rows else fault16 rows
 
 -- what a check of the number may count on
-pub record Ready (n : ℕ) (t : List ℕ) : Type 0 where
+pub record Ready (n : ℕ) (pattern : List ℕ) : Type 0 where
   pub least : 12 ≤ n
-  pub formed : 12 < n → Formed t
-  pub shallow : 15 < n → Shallow t
+  pub formed : 12 < n → Formed pattern
+  pub shallow : 15 < n → Shallow pattern

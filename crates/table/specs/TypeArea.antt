@@ -19,12 +19,12 @@ octal zero x = []
 octal (suc n) x = x % 8 ∷ octal n (x / 8)
 
 -- a table that was accepted
-pub record Checked (t : List ℕ) : Type 0 where
-  pub long : 5 ≤ length t
-  pub last : Typable t (length t / 5 - 1)
-  pub no-fault : patternFault t ≡ none
+pub record Checked (pattern : List ℕ) : Type 0 where
+  pub long : 5 ≤ length pattern
+  pub last : Typable pattern (length pattern / 5 - 1)
+  pub no-fault : patternFault pattern ≡ none
 
 -- under 48 words: 17, and the area as it was; else the verdict, and the types or zeros over the area
-pub record TypesLeft (t types after : List ℕ) (v : Verdict) : Type 0 where
-  pub verdict-is : causeOf v ≡ (if ltb (length types) 48 then some (17, 0) else patternFault t)
-  pub types-are : after ≡ (if ltb (length types) 48 then types else over (typesOrZeros (patternFault t) t) types)
+pub record TypesLeft (pattern types after : List ℕ) (v : Verdict) : Type 0 where
+  pub verdict-is : causeOf v ≡ (if ltb (length types) 48 then some (17, 0) else patternFault pattern)
+  pub types-are : after ≡ (if ltb (length types) 48 then types else over (typesOrZeros (patternFault pattern) pattern) types)

@@ -22,14 +22,14 @@ abbrev pub plainAt : List ℕ → ℕ → ℕ → Found
 plainAt t row x = plainOf (asPattern (itemAt (rowsOf t) row)) x
 
 -- r is the type of x in the row, conditions aside
-pub record TypeIs (t : List ℕ) (row x r : ℕ) : Type 0 where
-  pub is : r ≡ codeOf (plainAt t row x)
+pub record TypeIs (pattern : List ℕ) (row x r : ℕ) : Type 0 where
+  pub is : r ≡ codeOf (plainAt pattern row x)
   pub small : r < 262144
 
 -- r tells whether the condition of the row names only variables that the part types Node or Edge
-pub record FitsAt (t : List ℕ) (part row : ℕ) (r : Bool) : Type 0 where
-  pub is : conditionForm (formAt (rowsOf t) row) ≡ true → r ≡ fits (plainAt t part) (asCondition (itemAt (rowsOf t) row))
+pub record FitsAt (pattern : List ℕ) (part row : ℕ) (r : Bool) : Type 0 where
+  pub is : conditionForm (formAt (rowsOf pattern) row) ≡ true → r ≡ fits (plainAt pattern part) (asCondition (itemAt (rowsOf pattern) row))
 
 -- r tells whether a variable of the row has no type
-pub record Clashes (t : List ℕ) (row : ℕ) (r : Bool) : Type 0 where
-  pub is : r ≡ anyOf eight (λ x. isClash (plainAt t row x))
+pub record Clashes (pattern : List ℕ) (row : ℕ) (r : Bool) : Type 0 where
+  pub is : r ≡ anyOf eight (λ x. isClash (plainAt pattern row x))

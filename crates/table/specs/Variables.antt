@@ -17,9 +17,9 @@ pub record One (x r : ℕ) : Type 0 where
   pub small : r ≤ 256
 
 -- the row is a row of an accepted table
-pub record Within (t : List ℕ) (row : ℕ) : Type 0 where
-  pub accepted : Checked t
-  pub room : row * 5 + 5 ≤ length t
+pub record Within (pattern : List ℕ) (row : ℕ) : Type 0 where
+  pub accepted : Checked pattern
+  pub room : row * 5 + 5 ≤ length pattern
 
 -- the pattern that a row stands for
 abbrev pub patternAt : List ℕ → ℕ → Pattern
@@ -42,15 +42,15 @@ unfoldable pub listOf : (ℕ → ℕ) → ℕ → List ℕ
 listOf f n = each (upFrom n 0) (λ i. f i ∷ [])
 
 -- r is the type of x in the row
-pub record HasType (t : List ℕ) (row x r : ℕ) : Type 0 where
-  pub is : r ≡ codeOf (typeOf (patternAt t row) x)
+pub record HasType (pattern : List ℕ) (row x r : ℕ) : Type 0 where
+  pub is : r ≡ codeOf (typeOf (patternAt pattern row) x)
   pub small : r < 262144
 
 -- r is the bit of x where the row uses it, and 0 where not
-pub record Weight (t : List ℕ) (row x r : ℕ) : Type 0 where
-  pub is : r ≡ bit (inVar (patternAt t row) x) * 2 ^ x
+pub record Weight (pattern : List ℕ) (row x r : ℕ) : Type 0 where
+  pub is : r ≡ bit (inVar (patternAt pattern row) x) * 2 ^ x
   pub small : r ≤ 256
 
 -- r are the variables of the row, as bits
-pub record HasVariables (t : List ℕ) (row r : ℕ) : Type 0 where
-  pub is : r ≡ variablesAt t row
+pub record HasVariables (pattern : List ℕ) (row r : ℕ) : Type 0 where
+  pub is : r ≡ variablesAt pattern row

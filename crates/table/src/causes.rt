@@ -53,28 +53,28 @@ impl Verdict {
 }
 
 // Whether row i has the fault of the number.
-fn faulty(t: &[u16], number: u64, i: usize) -> bool
-    requires { ⌜ (i * 5 + 5 ≤ length (now t)) × (length (now t) ≤ 320) × Ready number (now t) ⌝ }
-    ensures { λ r. ⌜ Tells (faultBy number (rowsOf (now (t .entry)))) i r ⌝ }
+fn faulty(pattern: &[u16], number: u64, i: usize) -> bool
+    requires { ⌜ (i * 5 + 5 ≤ length (now pattern)) × (length (now pattern) ≤ 320) × Ready number (now pattern) ⌝ }
+    ensures { λ r. ⌜ Tells (faultBy number (rowsOf (now (pattern .entry)))) i r ⌝ }
 {
     match number {
-        12 => malformed(t, i),
-        13 => loose(t, i),
-        14 => repeats_edgeless(t, i),
-        15 => too_deep(t, i),
-        _ => untyped(t, i),
+        12 => malformed(pattern, i),
+        13 => loose(pattern, i),
+        14 => repeats_edgeless(pattern, i),
+        15 => too_deep(pattern, i),
+        _ => untyped(pattern, i),
     }
 }
 
 // The lowest row with the fault of the number.
-fn lowest(t: &[u16], number: u64) -> Verdict
-    requires { ⌜ (length (now t) ≤ 320) × Ready number (now t) ⌝ }
-    ensures { λ r. ⌜ causeOf r ≡ rowCause (rowsOf (now (t .entry))) number (faultBy number (rowsOf (now (t .entry)))) ⌝ }
+fn lowest(pattern: &[u16], number: u64) -> Verdict
+    requires { ⌜ (length (now pattern) ≤ 320) × Ready number (now pattern) ⌝ }
+    ensures { λ r. ⌜ causeOf r ≡ rowCause (rowsOf (now (pattern .entry))) number (faultBy number (rowsOf (now (pattern .entry)))) ⌝ }
 {
-    let rows = t.len() / 5;
+    let rows = pattern.len() / 5;
     let mut i: usize = 0;
     while i < rows {
-        if faulty(t, number, i) {
+        if faulty(pattern, number, i) {
             return Verdict::Refused {
                 number: number,
                 row: i as u64,
@@ -86,13 +86,13 @@ fn lowest(t: &[u16], number: u64) -> Verdict
 }
 
 // 12 to 16.
-fn check_rows(t: &[u16]) -> Verdict
-    requires { ⌜ length (now t) ≤ 320 ⌝ }
-    ensures { λ r. ⌜ causeOf r ≡ tableFault (rowsOf (now (t .entry))) ⌝ }
+fn check_rows(pattern: &[u16]) -> Verdict
+    requires { ⌜ length (now pattern) ≤ 320 ⌝ }
+    ensures { λ r. ⌜ causeOf r ≡ tableFault (rowsOf (now (pattern .entry))) ⌝ }
 {
     let mut number: u64 = 12;
     while number < 17 {
-        let v = lowest(t, number);
+        let v = lowest(pattern, number);
         match v {
             Verdict::Refused { number: _, row: _ } => return v,
             Verdict::Accepted => {}
@@ -103,10 +103,10 @@ fn check_rows(t: &[u16]) -> Verdict
 }
 
 // 11 to 16.
-pub fn check(t: &[u16]) -> Verdict
-    ensures { λ r. ⌜ causeOf r ≡ patternFault (now (t .entry)) ⌝ }
+pub fn check(pattern: &[u16]) -> Verdict
+    ensures { λ r. ⌜ causeOf r ≡ patternFault (now (pattern .entry)) ⌝ }
 {
-    let n = t.len();
+    let n = pattern.len();
     if n % 5 != 0 {
         return Verdict::Refused { number: 11, row: 0 };
     }
@@ -116,5 +116,5 @@ pub fn check(t: &[u16]) -> Verdict
     if 320 < n {
         return Verdict::Refused { number: 11, row: 0 };
     }
-    check_rows(t)
+    check_rows(pattern)
 }

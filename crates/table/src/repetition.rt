@@ -8,40 +8,40 @@ ghost use Rattle.meaning.specs.Basics.{max};
 ghost use Rattle.table.specs.Repetition.{Edgeless, Depth};
 
 // Whether a pattern row can match without an edge.
-pub fn edgeless(t: &[u16], row: usize) -> bool
-    requires { ⌜ Stands (now t) row ⌝ }
-    ensures { λ r. ⌜ Edgeless (now (t .entry)) row r ⌝ }
+pub fn edgeless(pattern: &[u16], row: usize) -> bool
+    requires { ⌜ Stands (now pattern) row ⌝ }
+    ensures { λ r. ⌜ Edgeless (now (pattern .entry)) row r ⌝ }
 {
-    let r = row_at(t, row);
+    let r = row_at(pattern, row);
     let kind = r.kind;
     match kind {
         2..=4 => false,
         5 => {
-            if edgeless(t, r.p) {
+            if edgeless(pattern, r.p) {
                 return true;
             }
-            edgeless(t, r.q)
+            edgeless(pattern, r.q)
         }
         6 => {
-            if edgeless(t, r.p) {
-                return edgeless(t, r.q);
+            if edgeless(pattern, r.p) {
+                return edgeless(pattern, r.q);
             }
             false
         }
-        7 => edgeless(t, r.p),
+        7 => edgeless(pattern, r.p),
         8 => r.r == 0,
         _ => true,
     }
 }
 
 // 14: a repetition over a body that can match without an edge.
-pub fn repeats_edgeless(t: &[u16], i: usize) -> bool
-    requires { ⌜ Stands (now t) i ⌝ }
-    ensures { λ r. ⌜ r ≡ fault14 (rowsOf (now (t .entry))) i ⌝ }
+pub fn repeats_edgeless(pattern: &[u16], i: usize) -> bool
+    requires { ⌜ Stands (now pattern) i ⌝ }
+    ensures { λ r. ⌜ r ≡ fault14 (rowsOf (now (pattern .entry))) i ⌝ }
 {
-    let r = row_at(t, i);
+    let r = row_at(pattern, i);
     if r.kind == 8 {
-        return edgeless(t, r.p);
+        return edgeless(pattern, r.p);
     }
     false
 }
@@ -54,32 +54,32 @@ fn greater(a: usize, b: usize) -> usize
 }
 
 // How many repetitions stand one in another, from a pattern row down.
-pub fn depth(t: &[u16], row: usize) -> usize
-    requires { ⌜ Stands (now t) row ⌝ }
-    ensures { λ r. ⌜ Depth (now (t .entry)) row r ⌝ }
+pub fn depth(pattern: &[u16], row: usize) -> usize
+    requires { ⌜ Stands (now pattern) row ⌝ }
+    ensures { λ r. ⌜ Depth (now (pattern .entry)) row r ⌝ }
 {
-    let r = row_at(t, row);
+    let r = row_at(pattern, row);
     let kind = r.kind;
     match kind {
         5..=6 => {
-            let a = depth(t, r.p);
-            let b = depth(t, r.q);
+            let a = depth(pattern, r.p);
+            let b = depth(pattern, r.q);
             greater(a, b)
         }
-        7 => depth(t, r.p),
-        8 => 1 + depth(t, r.p),
+        7 => depth(pattern, r.p),
+        8 => 1 + depth(pattern, r.p),
         _ => 0,
     }
 }
 
 // 15: a third repetition around two.
-pub fn too_deep(t: &[u16], i: usize) -> bool
-    requires { ⌜ Stands (now t) i ⌝ }
-    ensures { λ r. ⌜ r ≡ fault15 (rowsOf (now (t .entry))) i ⌝ }
+pub fn too_deep(pattern: &[u16], i: usize) -> bool
+    requires { ⌜ Stands (now pattern) i ⌝ }
+    ensures { λ r. ⌜ r ≡ fault15 (rowsOf (now (pattern .entry))) i ⌝ }
 {
-    let r = row_at(t, i);
+    let r = row_at(pattern, i);
     if r.kind == 8 {
-        return 2 <= depth(t, r.p);
+        return 2 <= depth(pattern, r.p);
     }
     false
 }

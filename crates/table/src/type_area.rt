@@ -30,30 +30,30 @@ fn write_type(types: &mut [u16], at: usize, code: u64)
 }
 
 // The types of the eight variables in a table that was accepted.
-fn write_types(t: &[u16], types: &mut [u16])
-    requires { ⌜ Checked (now t) × (48 ≤ length (now types)) ⌝ }
-    ensures { λ r. ⌜ now (types .exit) ≡ over (typeWords (patternOf (now (t .entry)))) (now (types .entry)) ⌝ }
+fn write_types(pattern: &[u16], types: &mut [u16])
+    requires { ⌜ Checked (now pattern) × (48 ≤ length (now types)) ⌝ }
+    ensures { λ r. ⌜ now (types .exit) ≡ over (typeWords (patternOf (now (pattern .entry)))) (now (types .entry)) ⌝ }
 {
-    let root = t.len() / 5 - 1;
+    let root = pattern.len() / 5 - 1;
     let mut x: usize = 0;
     while x < 8 {
-        let code = type_of(t, root, x + 1);
+        let code = type_of(pattern, root, x + 1);
         write_type(types, 6 * x, code);
         x += 1;
     }
 }
 
 // 17, then 11 to 16; the types in the first 48 words.
-pub fn check_types(t: &[u16], types: &mut [u16]) -> Verdict
-    ensures { λ r. ⌜ TypesLeft (now (t .entry)) (now (types .entry)) (now (types .exit)) r ⌝ }
+pub fn check_types(pattern: &[u16], types: &mut [u16]) -> Verdict
+    ensures { λ r. ⌜ TypesLeft (now (pattern .entry)) (now (types .entry)) (now (types .exit)) r ⌝ }
 {
     if types.len() < 48 {
         return Verdict::Refused { number: 17, row: 0 };
     }
-    let v = check(t);
+    let v = check(pattern);
     match v {
         Verdict::Accepted => {
-            write_types(t, types);
+            write_types(pattern, types);
             v
         }
         Verdict::Refused { number: _, row: _ } => {

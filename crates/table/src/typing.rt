@@ -15,65 +15,65 @@ ghost use Rattle.table.specs.Ready.{Typable};
 ghost use Rattle.table.specs.Typing.{TypeIs, FitsAt, Clashes};
 
 // The type of x in a pattern row whose conditions all fit, as a number.
-pub fn type_of(t: &[u16], row: usize, x: usize) -> u64
-    requires { ⌜ Typable (now t) row ⌝ }
-    ensures { λ r. ⌜ TypeIs (now (t .entry)) row x r ⌝ }
+pub fn type_of(pattern: &[u16], row: usize, x: usize) -> u64
+    requires { ⌜ Typable (now pattern) row ⌝ }
+    ensures { λ r. ⌜ TypeIs (now (pattern .entry)) row x r ⌝ }
 {
-    let r = row_at(t, row);
+    let r = row_at(pattern, row);
     let kind = r.kind;
     match kind {
         1 => named_type(r.p, x, NODE),
         2..=4 => named_type(r.p, x, EDGE),
         5 => {
-            let a = type_of(t, r.p, x);
-            let b = type_of(t, r.q, x);
+            let a = type_of(pattern, r.p, x);
+            let b = type_of(pattern, r.q, x);
             union_type(a, b)
         }
         6 => {
-            let a = type_of(t, r.p, x);
-            let b = type_of(t, r.q, x);
+            let a = type_of(pattern, r.p, x);
+            let b = type_of(pattern, r.q, x);
             joined_type(a, b)
         }
-        7 => type_of(t, r.p, x),
-        8 => repeated_type(type_of(t, r.p, x)),
+        7 => type_of(pattern, r.p, x),
+        8 => repeated_type(type_of(pattern, r.p, x)),
         _ => 0,
     }
 }
 
 // Whether a condition row names only variables that the pattern row `part` types Node or Edge.
-fn fits(t: &[u16], part: usize, row: usize) -> bool
-    requires { ⌜ Typable (now t) part × Stands (now t) row ⌝ }
-    ensures { λ r. ⌜ FitsAt (now (t .entry)) part row r ⌝ }
+fn fits(pattern: &[u16], part: usize, row: usize) -> bool
+    requires { ⌜ Typable (now pattern) part × Stands (now pattern) row ⌝ }
+    ensures { λ r. ⌜ FitsAt (now (pattern .entry)) part row r ⌝ }
 {
-    let r = row_at(t, row);
+    let r = row_at(pattern, row);
     let kind = r.kind;
     match kind {
-        16 => is_single(type_of(t, part, r.p)),
+        16 => is_single(type_of(pattern, part, r.p)),
         17 => {
-            if is_single(type_of(t, part, r.p)) {
-                return is_single(type_of(t, part, r.r));
+            if is_single(type_of(pattern, part, r.p)) {
+                return is_single(type_of(pattern, part, r.r));
             }
             false
         }
         18..=19 => {
-            if fits(t, part, r.p) {
-                return fits(t, part, r.q);
+            if fits(pattern, part, r.p) {
+                return fits(pattern, part, r.q);
             }
             false
         }
-        20 => fits(t, part, r.p),
+        20 => fits(pattern, part, r.p),
         _ => false,
     }
 }
 
 // Whether a variable of the row has no type.
-fn clashes(t: &[u16], row: usize) -> bool
-    requires { ⌜ Typable (now t) row ⌝ }
-    ensures { λ r. ⌜ Clashes (now (t .entry)) row r ⌝ }
+fn clashes(pattern: &[u16], row: usize) -> bool
+    requires { ⌜ Typable (now pattern) row ⌝ }
+    ensures { λ r. ⌜ Clashes (now (pattern .entry)) row r ⌝ }
 {
     let mut x: usize = 1;
     while x < 9 {
-        if type_of(t, row, x) == CLASH {
+        if type_of(pattern, row, x) == CLASH {
             return true;
         }
         x += 1;
@@ -82,16 +82,16 @@ fn clashes(t: &[u16], row: usize) -> bool
 }
 
 // 16: no type; a condition's fault counts at its kind 7 row.
-pub fn untyped(t: &[u16], i: usize) -> bool
-    requires { ⌜ Typable (now t) i ⌝ }
-    ensures { λ r. ⌜ Tells (fault16 (rowsOf (now (t .entry)))) i r ⌝ }
+pub fn untyped(pattern: &[u16], i: usize) -> bool
+    requires { ⌜ Typable (now pattern) i ⌝ }
+    ensures { λ r. ⌜ Tells (fault16 (rowsOf (now (pattern .entry)))) i r ⌝ }
 {
-    let r = row_at(t, i);
-    if clashes(t, i) {
+    let r = row_at(pattern, i);
+    if clashes(pattern, i) {
         return true;
     }
     if r.kind == 7 {
-        return !fits(t, r.p, r.q);
+        return !fits(pattern, r.p, r.q);
     }
     false
 }

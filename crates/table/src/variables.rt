@@ -16,60 +16,60 @@ fn one(x: usize) -> u64
 }
 
 // The type of x in a row, as a number; 0 where x is not used.
-pub fn row_type(t: &[u16], row: usize, x: usize) -> u64
-    requires { ⌜ Within (now t) row ⌝ }
-    ensures { λ r. ⌜ HasType (now (t .entry)) row x r ⌝ }
+pub fn row_type(pattern: &[u16], row: usize, x: usize) -> u64
+    requires { ⌜ Within (now pattern) row ⌝ }
+    ensures { λ r. ⌜ HasType (now (pattern .entry)) row x r ⌝ }
 {
-    type_of(t, row, x)
+    type_of(pattern, row, x)
 }
 
 // The bit of x if the row uses it.
-fn weight(t: &[u16], row: usize, x: usize) -> u64
-    requires { ⌜ Within (now t) row × (x < 9) ⌝ }
-    ensures { λ r. ⌜ Weight (now (t .entry)) row x r ⌝ }
+fn weight(pattern: &[u16], row: usize, x: usize) -> u64
+    requires { ⌜ Within (now pattern) row × (x < 9) ⌝ }
+    ensures { λ r. ⌜ Weight (now (pattern .entry)) row x r ⌝ }
 {
-    if row_type(t, row, x) == 0 {
+    if row_type(pattern, row, x) == 0 {
         return 0;
     }
     one(x)
 }
 
 // The variables of a row, as bits 1 to 8.
-pub fn row_variables(t: &[u16], row: usize) -> u64
-    requires { ⌜ Within (now t) row ⌝ }
-    ensures { λ r. ⌜ HasVariables (now (t .entry)) row r ⌝ }
+pub fn row_variables(pattern: &[u16], row: usize) -> u64
+    requires { ⌜ Within (now pattern) row ⌝ }
+    ensures { λ r. ⌜ HasVariables (now (pattern .entry)) row r ⌝ }
 {
     let mut mask: u64 = 0;
     let mut x: usize = 1;
     while x < 9 {
-        mask += weight(t, row, x);
+        mask += weight(pattern, row, x);
         x += 1;
     }
     mask
 }
 
 // A number for each row: its variables.
-pub fn fill_variables(t: &[u16], variables: &mut [u64])
-    requires { ⌜ Checked (now t) × (length (now t) / 5 ≤ length (now variables)) ⌝ }
-    ensures { λ r. ⌜ now (variables .exit) ≡ listOf (variablesAt (now (t .entry))) (length (now (t .entry)) / 5) ++ drop (length (now (t .entry)) / 5) (now (variables .entry)) ⌝ }
+pub fn fill_variables(pattern: &[u16], variables: &mut [u64])
+    requires { ⌜ Checked (now pattern) × (length (now pattern) / 5 ≤ length (now variables)) ⌝ }
+    ensures { λ r. ⌜ now (variables .exit) ≡ listOf (variablesAt (now (pattern .entry))) (length (now (pattern .entry)) / 5) ++ drop (length (now (pattern .entry)) / 5) (now (variables .entry)) ⌝ }
 {
-    let rows = t.len() / 5;
+    let rows = pattern.len() / 5;
     let mut i: usize = 0;
     while i < rows {
-        variables[i] = row_variables(t, i);
+        variables[i] = row_variables(pattern, i);
         i += 1;
     }
 }
 
 // Eight numbers for each row: the types of the variables 1 to 8.
-pub fn fill_types(t: &[u16], types: &mut [u64])
-    requires { ⌜ Checked (now t) × (8 * (length (now t) / 5) ≤ length (now types)) ⌝ }
-    ensures { λ r. ⌜ now (types .exit) ≡ listOf (typeAt (now (t .entry))) (8 * (length (now (t .entry)) / 5)) ++ drop (8 * (length (now (t .entry)) / 5)) (now (types .entry)) ⌝ }
+pub fn fill_types(pattern: &[u16], types: &mut [u64])
+    requires { ⌜ Checked (now pattern) × (8 * (length (now pattern) / 5) ≤ length (now types)) ⌝ }
+    ensures { λ r. ⌜ now (types .exit) ≡ listOf (typeAt (now (pattern .entry))) (8 * (length (now (pattern .entry)) / 5)) ++ drop (8 * (length (now (pattern .entry)) / 5)) (now (types .entry)) ⌝ }
 {
-    let all = 8 * (t.len() / 5);
+    let all = 8 * (pattern.len() / 5);
     let mut k: usize = 0;
     while k < all {
-        types[k] = row_type(t, k / 8, k % 8 + 1);
+        types[k] = row_type(pattern, k / 8, k % 8 + 1);
         k += 1;
     }
 }

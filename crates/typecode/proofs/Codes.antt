@@ -7,7 +7,7 @@ use lib.Dec.{eqb}
 use borrow.Author.Tests.{eq-eqb, ne-eqb}
 use Rattle.meaning.specs.Pattern.{named}
 use Rattle.meaning.specs.Table.{unless}
-use Rattle.meaning.specs.Typing.{Ty, Ty-discrete, Node, Edge, Maybe, Group, Found, absent, clash, typed, opt, single, meet, unionTy, concatenationTy, repetitionTy, namedTy}
+use Rattle.meaning.specs.Typing.{Ty, Ty-discrete, Node, Edge, Maybe, Group, Found, absent, clash, typed, opt, single, joinTy, unionTy, concatenationTy, repetitionTy, namedTy}
 use Rattle.typecode.specs.Codes.{tyCode, codeOf, Opts, Meets, Unites, Joins, Repeats, Singles, Names}
 
 -- a type's number has a last digit from 1 to 4
@@ -67,26 +67,26 @@ opt-more a n = record { is = go }
 
 -- ------------------------------------------------------------------ both
 module _ (a b : ℕ) where
-  meet-same : (τ σ : Ty) (d₁ : Dec (τ ≡ σ)) (d₂ : Dec (σ ≡ Maybe τ)) (d₃ : Dec (τ ≡ Maybe σ)) → τ ≡ σ → codeOf (meet τ σ d₁ d₂ d₃) ≡ tyCode τ
-  unfolding meet codeOf
+  meet-same : (τ σ : Ty) (d₁ : Dec (τ ≡ σ)) (d₂ : Dec (σ ≡ Maybe τ)) (d₃ : Dec (τ ≡ Maybe σ)) → τ ≡ σ → codeOf (joinTy τ σ d₁ d₂ d₃) ≡ tyCode τ
+  unfolding joinTy codeOf
   meet-same τ σ (yes p) d₂ d₃ e = refl
   meet-same τ σ (no p) d₂ d₃ e = absurd (p e)
 
-  meet-right : (τ σ : Ty) (d₁ : Dec (τ ≡ σ)) (d₂ : Dec (σ ≡ Maybe τ)) (d₃ : Dec (τ ≡ Maybe σ)) → (τ ≡ σ → ⊥) → σ ≡ Maybe τ → codeOf (meet τ σ d₁ d₂ d₃) ≡ tyCode σ
-  unfolding meet codeOf
+  meet-right : (τ σ : Ty) (d₁ : Dec (τ ≡ σ)) (d₂ : Dec (σ ≡ Maybe τ)) (d₃ : Dec (τ ≡ Maybe σ)) → (τ ≡ σ → ⊥) → σ ≡ Maybe τ → codeOf (joinTy τ σ d₁ d₂ d₃) ≡ tyCode σ
+  unfolding joinTy codeOf
   meet-right τ σ (yes p) d₂ d₃ n e = absurd (n p)
   meet-right τ σ (no p) (yes q) d₃ n e = refl
   meet-right τ σ (no p) (no q) d₃ n e = absurd (q e)
 
-  meet-left : (τ σ : Ty) (d₁ : Dec (τ ≡ σ)) (d₂ : Dec (σ ≡ Maybe τ)) (d₃ : Dec (τ ≡ Maybe σ)) → (τ ≡ σ → ⊥) → (σ ≡ Maybe τ → ⊥) → τ ≡ Maybe σ → codeOf (meet τ σ d₁ d₂ d₃) ≡ tyCode τ
-  unfolding meet codeOf
+  meet-left : (τ σ : Ty) (d₁ : Dec (τ ≡ σ)) (d₂ : Dec (σ ≡ Maybe τ)) (d₃ : Dec (τ ≡ Maybe σ)) → (τ ≡ σ → ⊥) → (σ ≡ Maybe τ → ⊥) → τ ≡ Maybe σ → codeOf (joinTy τ σ d₁ d₂ d₃) ≡ tyCode τ
+  unfolding joinTy codeOf
   meet-left τ σ (yes p) d₂ d₃ n m e = absurd (n p)
   meet-left τ σ (no p) (yes q) d₃ n m e = absurd (m q)
   meet-left τ σ (no p) (no q) (yes r) n m e = refl
   meet-left τ σ (no p) (no q) (no r) n m e = absurd (r e)
 
-  meet-none : (τ σ : Ty) (d₁ : Dec (τ ≡ σ)) (d₂ : Dec (σ ≡ Maybe τ)) (d₃ : Dec (τ ≡ Maybe σ)) → (τ ≡ σ → ⊥) → (σ ≡ Maybe τ → ⊥) → (τ ≡ Maybe σ → ⊥) → codeOf (meet τ σ d₁ d₂ d₃) ≡ 7
-  unfolding meet codeOf
+  meet-none : (τ σ : Ty) (d₁ : Dec (τ ≡ σ)) (d₂ : Dec (σ ≡ Maybe τ)) (d₃ : Dec (τ ≡ Maybe σ)) → (τ ≡ σ → ⊥) → (σ ≡ Maybe τ → ⊥) → (τ ≡ Maybe σ → ⊥) → codeOf (joinTy τ σ d₁ d₂ d₃) ≡ 7
+  unfolding joinTy codeOf
   meet-none τ σ (yes p) d₂ d₃ n m o = absurd (n p)
   meet-none τ σ (no p) (yes q) d₃ n m o = absurd (m q)
   meet-none τ σ (no p) (no q) (yes r) n m o = absurd (o r)

@@ -3,7 +3,6 @@ use Rattle.gpc.proofs.judge_in.Statement.{statement}
 use Rattle.gpc.proofs.judge_in.Tie as tie
 use Rattle.gpc.proofs.judge_in.Reads as reads
 use Rattle.gpc.proofs.judge_in.Lts as lts
-use native.Mathlib.Omega.{arith}
 use Rattle.gpc.proofs.Answering.{drop-part}
 
 -- src/lib.rt:66:57

@@ -1,6 +1,6 @@
 -- `compiled::fill::fill_head` meets its contract. Assumes nothing.
 use native.Mathlib.Omega.{arith}
-use lib.ListN.{length-drop, length-set, length-take}
+use lib.ListN.{length-set}
 use Rattle.compiled.proofs.Compiling.{head-filled}
 use Rattle.compiled.proofs.Parts.{accepted-short}
 use borrow.Author.Needs.{needs}

@@ -1,6 +1,5 @@
 -- `compiled::fill::fill_part` meets its contract. Assumes nothing.
 use native.Mathlib.Omega.{arith}
-use lib.ListN.{length-drop, length-set, length-take}
 use Rattle.compiled.proofs.Compiling.{part-filled}
 use borrow.Author.Needs.{needs}
 use Rattle.compiled.proofs.fill.fill_part.Statement.{statement}

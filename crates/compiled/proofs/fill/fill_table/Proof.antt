@@ -11,10 +11,10 @@ use Rattle.compiled.proofs.fill.fill_table.Lts as lts
 use Rattle.compiled.proofs.word.long.Reads as long-reads
 
 abbrev Inv-loop : tie.InvT-loop
-Inv-loop pat plan₀ i₀ plan i = (i ≤ length pat) × TablePut pat i plan₀ plan
+Inv-loop pattern plan₀ i₀ plan i = (i ≤ length pattern) × TablePut pattern i plan₀ plan
 
 abbrev μ-loop : tie.MeasureT-loop
-μ-loop pat plan₀ i₀ plan i = length pat - i
+μ-loop pattern plan₀ i₀ plan i = length pattern - i
 
 loop-holds : tie.Need-loop-holds Inv-loop μ-loop
 loop-holds c = search (table-none, arith)

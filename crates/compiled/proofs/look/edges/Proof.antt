@@ -1,5 +1,4 @@
 use Rattle.compiled.specs.Words.{edgesIn}
-use native.Mathlib.Omega.{arith}
 use borrow.Author.Needs.{needs}
 use Rattle.compiled.proofs.look.edges.Statement.{statement}
 use Rattle.compiled.proofs.look.edges.Tie as tie

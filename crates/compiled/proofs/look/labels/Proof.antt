@@ -1,5 +1,4 @@
 use Rattle.compiled.specs.Words.{labelsIn}
-use native.Mathlib.Omega.{arith}
 use borrow.Author.Needs.{needs}
 use Rattle.compiled.proofs.look.labels.Statement.{statement}
 use Rattle.compiled.proofs.look.labels.Tie as tie

@@ -1,5 +1,4 @@
 use Rattle.compiled.specs.Words.{nodesIn}
-use native.Mathlib.Omega.{arith}
 use borrow.Author.Needs.{needs}
 use Rattle.compiled.proofs.look.nodes.Statement.{statement}
 use Rattle.compiled.proofs.look.nodes.Tie as tie

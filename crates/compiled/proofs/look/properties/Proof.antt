@@ -1,5 +1,4 @@
 use Rattle.compiled.specs.Words.{propertiesIn}
-use native.Mathlib.Omega.{arith}
 use borrow.Author.Needs.{needs}
 use Rattle.compiled.proofs.look.properties.Statement.{statement}
 use Rattle.compiled.proofs.look.properties.Tie as tie

@@ -1,5 +1,5 @@
 -- `examples::graphs::only_nodes` meets its contract. Assumes nothing.
-use Prim.Native.Nat.{_≤_, _-_, _+_}
+use Prim.Native.Nat.{_≤_, _-_}
 use borrow.Author.Needs.{needs}
 use Rattle.examples.proofs.graphs.only_nodes.Statement.{statement}
 use Rattle.examples.proofs.graphs.only_nodes.Tie as tie

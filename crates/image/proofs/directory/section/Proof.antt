@@ -1,6 +1,6 @@
 -- `image::directory::section` meets its contract. Assumes nothing.
 use borrow.Author.Needs.{needs}
-use Rattle.meaning.specs.Image.{offset, bytes}
+use Rattle.meaning.specs.Image.{offset, sectionLength}
 use Rattle.image.proofs.directory.section.Statement.{statement}
 use Rattle.image.proofs.directory.section.Tie as tie
 
@@ -20,7 +20,7 @@ size-at-requires-2 : tie.Need-size-at-requires-2
 size-at-requires-2 c κs = search needs
 
 returns : tie.Need-returns
-unfolding offset bytes
+unfolding offset sectionLength
 returns c = search needs
 
 pub section-spec : {M : Type 1} → statement M
