@@ -1,6 +1,7 @@
 /* GPC listings over a fitting record: the operations that are open to C.
  *
- * Every promise below holds for all contents of all lent memory; the library is proved to keep it.
+ * Every promise below holds for all contents of all lent memory, and the library is proved to keep it; only the stack that a call takes
+ * is measured.
  *
  * Lent memory
  *   - A piece is passed as a pointer and a count of elements. A piece of count 0 may have a null pointer.

@@ -1,6 +1,6 @@
 #!/usr/bin/env python3
-"""tests/shape.py: what a reader may rely on in the sources: short lists of parameters, short functions, and that nothing above the crates
-that compile a call reads the image, its sections or the table's words, or knows a number of the compiled layout.
+"""tests/shape.py: what a reader may rely on in the sources: short lists of parameters, each of them read, short functions, and that
+nothing above the crates that compile a call reads the image, its sections or the table's words, or knows a number of the compiled layout.
 
 Ends with 'N passed, M failed'; names every place that breaks a rule.
 """
@@ -17,7 +17,7 @@ HEAD = re.compile(r'^( *)(?:pub )?(?:extern "C" )?fn (\w+)\s*\(', re.M)
 
 
 def functions(text):
-    """Each function's name, parameters and lines of body with head, the contract left out."""
+    """Each function's name, parameters, lines of body with head, the contract left out, and its body."""
     for head in HEAD.finditer(text):
         depth, i = 1, head.end()
         while depth:
@@ -25,28 +25,33 @@ def functions(text):
             i += 1
         parameters = [p.strip() for p in text[head.end():i - 1].split(",") if p.strip()]
         end = text.index("\n" + head.group(1) + "}", i)
+        body = re.sub(r"//.*", "", text[text.index("\n" + head.group(1) + "{", i - 1) if "\n" + head.group(1) + "{" in text[i - 1:end] else text.index("{", i):end])
         lines = [l for l in text[head.start():end].split("\n") if l.strip() and not re.match(r"\s*(requires|ensures)\b", l)]
-        yield head.group(2), parameters, len(lines) + 1
+        yield head.group(2), parameters, len(lines) + 1, body
 
 
 def reads_source(parameter):
     """Whether a parameter is the image, its sections or the words of a table."""
-    return bool(re.search(r"&(mut )?\[u8\]|\bSections\b", parameter)) or bool(re.match(r"(pat|pattern|t)\s*:\s*&\[u16\]", parameter))
+    return bool(re.search(r"&(mut )?\[u8\]|\bSections\b", parameter)) or bool(re.match(r"pattern\s*:\s*&\[u16\]", parameter))
 
 
 def main():
     crates = pathlib.Path("crates")
     above = "compiled"
     rules = {"at most %d parameters" % MOST_PARAMETERS: [], "at most %d lines" % MOST_LINES: [],
-             "only what compiles a call reads image and table": [], "the layout's numbers stand in one crate": []}
+             "only what compiles a call reads image and table": [], "the layout's numbers stand in one crate": [],
+             "every parameter is read": []}
     titles = list(rules)
     many = []
     users = users_of(above)
     for path in sorted(crates.rglob("*.rt")):
         crate = path.parts[1]
         text = path.read_text(encoding="utf-8")
-        for name, parameters, lines in functions(text):
+        for name, parameters, lines, body in functions(text):
             place = "%s: %s" % (path, name)
+            for parameter in (re.sub(r"^mut ", "", p).split(":")[0] for p in parameters):
+                if not re.search(r"\b%s\b" % parameter, body):
+                    rules[titles[4]].append("%s, %s" % (place, parameter))
             if len(parameters) > MANY_PARAMETERS:
                 many.append("%s, %d parameters" % (place, len(parameters)))
             if len(parameters) > MOST_PARAMETERS:

@@ -161,7 +161,6 @@ def main():
     found = list(unused_antt(quoted)) + list(unused_rattle())
     for line in found:
         print(line)
-    print(f"{0 if found else 1} passed, {len(found)} failed")
     return 1 if found else 0
 
 

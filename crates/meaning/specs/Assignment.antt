@@ -59,7 +59,7 @@ Factor = Walk × Assignment
 unfoldable pub pathOf : Factor → Walk
 pathOf f = f .0
 
--- a factor binds every variable of its pattern (Proposition 9), so that none is for variables that no group lists
+-- a factor binds every variable of its pattern (Proposition 9), so that none is met at no variable of a group
 unfoldable pub valueOf : Option Value → Value
 valueOf none = nothing
 valueOf (some v) = v

@@ -8,7 +8,7 @@ use borrow.Author.Tests.{eq-eqb, ne-eqb}
 use Rattle.meaning.specs.Pattern.{named}
 use Rattle.meaning.specs.Table.{unless}
 use Rattle.meaning.specs.Typing.{Ty, Ty-discrete, Node, Edge, Maybe, Group, Found, absent, clash, typed, opt, single, joinTy, unionTy, concatenationTy, repetitionTy, namedTy}
-use Rattle.typecode.specs.Codes.{tyCode, codeOf, Opts, Meets, Unites, Joins, Repeats, Singles, Names}
+use Rattle.typecode.specs.Codes.{tyCode, codeOf, Opts, BothTyped, Unites, Joins, Repeats, Singles, Names}
 
 -- a type's number has a last digit from 1 to 4
 pub ty-some : (τ : Ty) → 1 ≤ tyCode τ
@@ -100,19 +100,19 @@ module _ (a b : ℕ) where
   unfolding tyCode
   is-maybe τ σ e = ap tyCode e
 
-  pub both-same : a ≡ b → Meets a b a
+  pub both-same : a ≡ b → BothTyped a b a
   unfolding unionTy
   both-same e = record { is = λ τ σ p q. p ∙ sym (meet-same τ σ (Ty-discrete τ σ) (Ty-discrete σ (Maybe τ)) (Ty-discrete τ (Maybe σ)) (ty-same τ σ (sym p ∙ e ∙ q))) }
 
-  pub both-right : (a ≡ b → ⊥) → b ≡ 8 * a + 3 → Meets a b (8 * a + 3)
+  pub both-right : (a ≡ b → ⊥) → b ≡ 8 * a + 3 → BothTyped a b (8 * a + 3)
   unfolding unionTy
   both-right n e = record { is = λ τ σ p q. sym e ∙ q ∙ sym (meet-right τ σ (Ty-discrete τ σ) (Ty-discrete σ (Maybe τ)) (Ty-discrete τ (Maybe σ)) (λ z. n (p ∙ ap tyCode z ∙ sym q)) (maybe-is τ σ (sym q ∙ e ∙ ap (λ (x : ℕ). 8 * x + 3) p))) }
 
-  pub both-left : (a ≡ b → ⊥) → (b ≡ 8 * a + 3 → ⊥) → a ≡ 8 * b + 3 → Meets a b a
+  pub both-left : (a ≡ b → ⊥) → (b ≡ 8 * a + 3 → ⊥) → a ≡ 8 * b + 3 → BothTyped a b a
   unfolding unionTy
   both-left n m e = record { is = λ τ σ p q. p ∙ sym (meet-left τ σ (Ty-discrete τ σ) (Ty-discrete σ (Maybe τ)) (Ty-discrete τ (Maybe σ)) (λ z. n (p ∙ ap tyCode z ∙ sym q)) (λ z. m (q ∙ is-maybe τ σ z ∙ ap (λ (x : ℕ). 8 * x + 3) (sym p))) (maybe-is σ τ (sym p ∙ e ∙ ap (λ (x : ℕ). 8 * x + 3) q))) }
 
-  pub both-none : (a ≡ b → ⊥) → (b ≡ 8 * a + 3 → ⊥) → (a ≡ 8 * b + 3 → ⊥) → Meets a b 7
+  pub both-none : (a ≡ b → ⊥) → (b ≡ 8 * a + 3 → ⊥) → (a ≡ 8 * b + 3 → ⊥) → BothTyped a b 7
   unfolding unionTy
   both-none n m o = record { is = λ τ σ p q. sym (meet-none τ σ (Ty-discrete τ σ) (Ty-discrete σ (Maybe τ)) (Ty-discrete τ (Maybe σ)) (λ z. n (p ∙ ap tyCode z ∙ sym q)) (λ z. m (q ∙ is-maybe τ σ z ∙ ap (λ (x : ℕ). 8 * x + 3) (sym p))) (λ z. o (p ∙ is-maybe σ τ z ∙ ap (λ (x : ℕ). 8 * x + 3) (sym q)))) }
 
@@ -172,7 +172,7 @@ module _ (a b : ℕ) where
       go absent g p q = absurd (n p)
       go clash g p q = absurd (c p)
 
-  pub union-both : (r : ℕ) → (a ≡ 7 → ⊥) → (b ≡ 7 → ⊥) → (a ≡ 0 → ⊥) → (b ≡ 0 → ⊥) → Meets a b r → Unites a b r
+  pub union-both : (r : ℕ) → (a ≡ 7 → ⊥) → (b ≡ 7 → ⊥) → (a ≡ 0 → ⊥) → (b ≡ 0 → ⊥) → BothTyped a b r → Unites a b r
   unfolding codeOf
   union-both r c d n m o = record { is = go }
     where

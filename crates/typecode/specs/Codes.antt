@@ -23,7 +23,7 @@ pub record Opts (a r : ℕ) : Type 0 where
   pub is : (τ : Ty) → a ≡ tyCode τ → r ≡ tyCode (opt τ)
 
 -- a variable that both parts of a union type
-pub record Meets (a b r : ℕ) : Type 0 where
+pub record BothTyped (a b r : ℕ) : Type 0 where
   pub is : (τ σ : Ty) → a ≡ tyCode τ → b ≡ tyCode σ → r ≡ codeOf (unionTy (typed τ) (typed σ))
 
 -- a variable in a union

@@ -1,7 +1,7 @@
 // A type as one number, its outermost constructor in the lowest digit to base 8; 0 not used, 7 no type. Each function promises the
 // number of the type that a rule of Figure 2 of 000 gives.
 ghost use Prim.Native.Nat.{_<_, _+_, _*_};
-ghost use Rattle.typecode.specs.Codes.{Opts, Meets, Unites, Joins, Repeats, Singles, Names};
+ghost use Rattle.typecode.specs.Codes.{Opts, BothTyped, Unites, Joins, Repeats, Singles, Names};
 
 // A type's numbers, 1 to 4, are those that 01 reports.
 pub const NODE: u64 = 1;
@@ -29,7 +29,7 @@ fn maybe(a: u64) -> u64
 // A variable that both parts of a union type.
 fn both(a: u64, b: u64) -> u64
     requires { ⌜ (a < 262144) × (b < 262144) ⌝ }
-    ensures { λ r. ⌜ Meets a b r ⌝ }
+    ensures { λ r. ⌜ BothTyped a b r ⌝ }
 {
     if a == b {
         return a;
