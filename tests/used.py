@@ -109,6 +109,8 @@ class Tree:
     def follow(self):
         while self.queue:
             key, name = self.queue.pop()
+            if key[2] == "Opened":
+                continue  # what is only opened for proofs is not used by them
             file, text = self.files[key], self.files[key].declared[name]
             said = tokens(text)
             self.reach((key, file.spelt[t]) for t in said & set(file.spelt))
