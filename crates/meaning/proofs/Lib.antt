@@ -5,6 +5,7 @@ pub mod Members
 pub mod Unused
 pub mod Derived
 pub mod Types
+pub mod OneType
 pub mod Domain
 pub mod Unification
 pub mod Factors
