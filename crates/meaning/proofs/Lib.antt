@@ -29,6 +29,9 @@ pub mod ImageRead
 pub mod Examples
 pub mod Rules
 pub mod Untyped
+pub mod Named
+pub mod Parts
+pub mod WholeTable
 pub mod Lists
 pub mod TypeWords
 pub mod Reading
