@@ -41,4 +41,5 @@ pub mod Pages
 pub mod Calls
 pub mod Bytes
 pub mod Judged
+pub mod AnyAssignment
 pub mod After
