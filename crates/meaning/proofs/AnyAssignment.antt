@@ -72,10 +72,11 @@ module _ (n m k b : ℕ) where
       go false e = let a : typeOf π x ≡ absent = unused→absent π x e in rw a (rw a at (c x))
 
 -- ------------------------------------------------------------------ the judge's yes
+-- equal at every variable, so the same assignment
 moved : {G : Graph} {ρ : Restrictor} {π : Pattern} {p q : Walk} {μ ν : Assignment} → p ≡ q → ((x : ℕ) → μ x ≡ ν x) → Answer G ρ π q ν → Answer G ρ π p μ
 moved {μ = μ} {ν = ν} e f a = let g : μ ≡ ν = fun-ext f in rw (e, g) a
 
--- k is any bound on the factors of a group
+-- k bounds the factors of a group, and any k will do: a listed record is too short for a group of 65,535, which would begin like Nothing
 pub judged-assignment : (image pattern : List ℕ) (n : ℕ) → fixedFault image pattern n ≡ none → (k : ℕ) (p : Walk) (μ : Assignment) → ((x : ℕ) → Conforms (graphOf image .nodes) (length (graphOf image .edges)) k (typeOf (patternOf pattern) x) (μ x)) → (judge image pattern n (recordOf p μ) ≡ true) ↔ Answer (graphOf image) (restrictorOf n) (patternOf pattern) p μ
 unfolding opened
 judged-assignment image pattern n ok k p μ c = (there, back)
