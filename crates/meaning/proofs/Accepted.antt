@@ -35,12 +35,16 @@ in-upFrom (suc n) i x h k = go (eqb x i) refl (in-upFrom n (suc i) x)
     go true e ih = List·Memᴰ·head (eqb-true x i e)
     go false e ih = let z : x ≢ i = eqb-false x i e in List·Memᴰ·tail (ih (omega arith) (omega arith))
 
-eight-false : (f : ℕ → Bool) → anyOf eight f ≡ false → (x : ℕ) → isVariable x ≡ true → f x ≡ false
+is-eight : (x : ℕ) → isVariable x ≡ true → x ∈ eight
 unfolding opened
-eight-false f e x h =
+is-eight x h =
     let a : 1 ≤ x = leb-true 1 x (and-l (leb 1 x) (leb x 8) h) in
     let b : x ≤ 8 = leb-true x 8 (and-r (leb 1 x) (leb x 8) h) in
-    any-false f (in-upFrom 8 1 x a (omega arith)) e
+    in-upFrom 8 1 x a (omega arith)
+
+eight-false : (f : ℕ → Bool) → anyOf eight f ≡ false → (x : ℕ) → isVariable x ≡ true → f x ≡ false
+unfolding opened
+eight-false f e x h = any-false f (is-eight x h) e
 
 not-clash : (f : Found) → isClash f ≡ false → f ≢ clash
 unfolding opened
@@ -71,14 +75,31 @@ pub record Accepted (π : Pattern) : Type 0 where
   pub variables : (x : ℕ) → inVar π x ≡ true → isVariable x ≡ true
   pub no-clash : (x : ℕ) → typeOf π x ≢ clash
 
+-- the variables of an accepted pattern are among the eight
+pub used-eight : (π : Pattern) → Accepted π → (x : ℕ) → inVar π x ≡ true → x ∈ eight
+unfolding opened
+used-eight π ok x u = is-eight x (ok .variables x u)
+
 -- no row of a table has the fault
 pub clear : (t : List Row) (n : ℕ) (f : ℕ → Bool) → rowCause t n f ≡ none → (i : ℕ) → i < length t → f i ≡ false
 unfolding opened
 clear t n f e i h = lowest-none (length t) 0 f (atRow-none n (lowest (length t) 0 f) e) i (omega arith) (omega arith)
 
-pub table-accepted : (t : List Row) → 0 < length t → tableFault t ≡ none → Accepted (tablePattern t)
+-- no row has a fault of 12 to 15
+pub record WellFormed (t : List Row) : Type 0 where
+  pub no-12 : (i : ℕ) → i < length t → fault12 t i ≡ false
+  pub no-13 : (i : ℕ) → i < length t → fault13 t i ≡ false
+  pub no-14 : (i : ℕ) → i < length t → fault14 t i ≡ false
+  pub no-15 : (i : ℕ) → i < length t → fault15 t i ≡ false
+
+pub rows-fine : (t : List Row) → WellFormed t → (i : ℕ) → i < length t → fine t i (formAt t i) ≡ true
 unfolding opened
-table-accepted t n e =
+rows-fine t w i h = not-false (fine t i (formAt t i)) (w .no-12 i h)
+
+-- what an accepted table has passed: 12 to 15, and 16
+pub passed : (t : List Row) → tableFault t ≡ none → WellFormed t × ((i : ℕ) → i < length t → fault16 t i ≡ false)
+unfolding opened
+passed t e =
     let c₁₆ : Cause = rowCause t 16 (fault16 t) in
     let c₁₅ : Cause = firstOf (rowCause t 15 (fault15 t)) c₁₆ in
     let c₁₄ : Cause = firstOf (rowCause t 14 (fault14 t)) c₁₅ in
@@ -86,12 +107,18 @@ table-accepted t n e =
     let b = first-none (rowCause t 13 (fault13 t)) c₁₄ (a .1) in
     let c = first-none (rowCause t 14 (fault14 t)) c₁₅ (b .1) in
     let d = first-none (rowCause t 15 (fault15 t)) c₁₆ (c .1) in
-    let ok : (i : ℕ) → i < length t → fine t i (formAt t i) ≡ true = λ i h. not-false (fine t i (formAt t i)) (clear t 12 (fault12 t) (a .0) i h) in
+    (record { no-12 = clear t 12 (fault12 t) (a .0); no-13 = clear t 13 (fault13 t) (b .0); no-14 = clear t 14 (fault14 t) (c .0); no-15 = clear t 15 (fault15 t) (d .0) }, clear t 16 (fault16 t) (d .1))
+
+pub table-accepted : (t : List Row) → 0 < length t → tableFault t ≡ none → Accepted (tablePattern t)
+unfolding opened
+table-accepted t n e =
+    let w = passed t e in
+    let ok = rows-fine t (w .0) in
     let k : length t - 1 < length t = omega arith in
     let v = var-all t ok (length t - 1) k in
     record {
-      sound = sound-all t ok (clear t 14 (fault14 t) (c .0)) (length t - 1) k;
-      shallow = deep-all t ok (clear t 15 (fault15 t) (d .0)) (length t - 1) k;
+      sound = sound-all t ok (w .0 .no-14) (length t - 1) k;
+      shallow = deep-all t ok (w .0 .no-15) (length t - 1) k;
       variables = v;
-      no-clash = typed-pattern (asPattern (itemAt t (length t - 1))) v (item-untyped (itemAt t (length t - 1)) (clear t 16 (fault16 t) (d .1) (length t - 1) k));
+      no-clash = typed-pattern (asPattern (itemAt t (length t - 1))) v (item-untyped (itemAt t (length t - 1)) (w .1 (length t - 1) k));
     }

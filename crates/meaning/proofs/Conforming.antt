@@ -1,5 +1,5 @@
 -- Proposition 9, second half: the assignment of an answer conforms to the schema.
-use mathlib.Core.Path.{_∙_, _≡_, ap, refl, sym}
+use mathlib.Core.Path.{_∙_, _≡_, ap, refl}
 use mathlib.Core.List.{List, [], _∷_, map}
 use mathlib.Core.Option.{Option, none, some}
 use mathlib.Core.Bool.{Bool, false, true}
@@ -14,22 +14,13 @@ use Rattle.meaning.proofs.InGraph.{goes-found}
 use Rattle.meaning.proofs.Logic.{all-both, all-map, either, or-false-l}
 use Rattle.meaning.proofs.Opened.{opened}
 use Rattle.meaning.proofs.Size.{len-append, nonEmpty-len}
-use Rattle.meaning.proofs.Unused.{absent→unused, no-typed-absent, unused→absent}
+use Rattle.meaning.proofs.Unused.{absent→unused, typed→used, unused→absent}
 use Rattle.meaning.specs.Assignment.{AllOf, Assignment, Conforms, Factor, Of, Value, bind, count, entries, group, nothing, one, pathOf, valueOf}
 use Rattle.meaning.specs.Basics.{All, if_then_else_, orElse}
 use Rattle.meaning.specs.Graph.{Graph, Valid, Walk, len, theEdge, theNode}
 use Rattle.meaning.specs.Meaning.{Meaning, Product}
 use Rattle.meaning.specs.Pattern.{Pattern, Sound, concatenation, conditioned, edge, inCondition, inVar, named, node, repetition, union}
 use Rattle.meaning.specs.Typing.{Edge, Found, Group, Maybe, Node, Ty, Ty-discrete, absent, clash, concatenationTy, conditionedTy, fits, joinTy, namedTy, opt, repetitionTy, typeOf, typed, unionTy}
-
--- a variable with a type is used
-used : (π : Pattern) (x : ℕ) {τ : Ty} → typeOf π x ≡ typed τ → inVar π x ≡ true
-unfolding opened
-used π x e = go (inVar π x) refl
-  where
-    go : (b : Bool) → inVar π x ≡ b → inVar π x ≡ true
-    go true q = q
-    go false q = no-typed-absent (sym e ∙ unused→absent π x q)
 
 pub count-entries : (x : ℕ) (fs : List Factor) → count (entries x fs) ≡ length fs
 unfolding opened
@@ -137,16 +128,17 @@ module _ (n m k : ℕ) where
   conditioned-conf false true f o h c = tt
   conditioned-conf false false f o h c = h refl
 
+-- factors that have an edge are no more than the edges
+pub factors-few : (G : Graph) (fs : List Factor) (p : Walk) → All (λ f. NonEmpty (f .0)) fs → Product G (map pathOf fs) p → length fs ≤ len p
+unfolding opened
+factors-few G [] p n h = omega arith
+factors-few G (f ∷ fs) p n h = omega (arith, factors-few G fs (h .0) (n .1) (h .1), nonEmpty-len (f .0) (n .0), ap len (h .3), len-append (f .0) (h .0))
+
 module _ (G : Graph) (valid : Valid G) (k : ℕ) where
   abbrev Fit : Found → Option Value → Type 0
   Fit f o = Conforms (G .nodes) (length (G .edges)) k f o
 
-  -- the factors are no more than the edges, and none is longer than the whole
-  factors-few : (fs : List Factor) (p : Walk) → All (λ f. NonEmpty (f .0)) fs → Product G (map pathOf fs) p → length fs ≤ len p
-  unfolding opened
-  factors-few [] p n h = omega arith
-  factors-few (f ∷ fs) p n h = omega (arith, factors-few fs (h .0) (n .1) (h .1), nonEmpty-len (f .0) (n .0), ap len (h .3), len-append (f .0) (h .0))
-
+  -- no factor is longer than the whole
   factors-short : (fs : List Factor) (p : Walk) → Product G (map pathOf fs) p → len p ≤ k → All (λ f. len (f .0) ≤ k) fs
   unfolding opened
   factors-short [] p h l = tt
@@ -161,8 +153,8 @@ module _ (G : Graph) (valid : Valid G) (k : ℕ) where
   conforms (node y l) s p μ h b x = at (typeOf (node y l) x) x (h .assignment-is) (bind-conf (G .nodes) (length (G .edges)) k y x Node (one (theNode (h .n))) (h .n, h .is-node, refl))
   conforms (edge d y l) s p μ h b x = at (typeOf (edge d y l) x) x (h .assignment-is) (bind-conf (G .nodes) (length (G .edges)) k y x Edge (one (theEdge (h .e))) (h .e, goes-found G valid d (h .e) (h .u₁) (h .u₂) (h .connects) .at, refl))
   conforms (union a c) s p μ h b x = at (typeOf (union a c) x) x (h .assignment-is) (either (h .either)
-      (λ r. union-left (G .nodes) (length (G .edges)) k (typeOf a x) (typeOf c x) ((h .ν) x) (inVar (union a c) x) (absent→unused (union a c) x) (λ τ e. used (union a c) x e) (conforms a (s .0) p (h .ν) r b x))
-      (λ r. union-right (G .nodes) (length (G .edges)) k (typeOf a x) (typeOf c x) ((h .ν) x) (inVar (union a c) x) (absent→unused (union a c) x) (λ τ e. used (union a c) x e) (conforms c (s .1) p (h .ν) r b x)))
+      (λ r. union-left (G .nodes) (length (G .edges)) k (typeOf a x) (typeOf c x) ((h .ν) x) (inVar (union a c) x) (absent→unused (union a c) x) (λ τ e. typed→used (union a c) x e) (conforms a (s .0) p (h .ν) r b x))
+      (λ r. union-right (G .nodes) (length (G .edges)) k (typeOf a x) (typeOf c x) ((h .ν) x) (inVar (union a c) x) (absent→unused (union a c) x) (λ τ e. typed→used (union a c) x e) (conforms c (s .1) p (h .ν) r b x)))
   conforms (concatenation a c) s p μ h b x =
       let e : len p ≡ len (h .p₁) + len (h .p₂) = ap len (h .path-is) ∙ len-append (h .p₁) (h .p₂) in
       at (typeOf (concatenation a c) x) x (h .assignment-is) (concatenation-conf (G .nodes) (length (G .edges)) k (typeOf a x) (typeOf c x) ((h .μ₁) x) ((h .μ₂) x) (conforms a (s .0) (h .p₁) (h .μ₁) (h .first) (omega arith) x) (conforms c (s .1) (h .p₂) (h .μ₂) (h .second) (omega arith) x))
@@ -173,6 +165,6 @@ module _ (G : Graph) (valid : Valid G) (k : ℕ) where
   conforms (repetition a i j) s p μ h b x =
       let fs : List Factor = h .factors in
       let ne = all-map (λ f r. has-an-edge G a (s .0) (s .1) (f .0) (f .1) r) fs (h .answers) in
-      let few : length fs ≤ len p = factors-few fs p ne (h .path-is) in
-      at (typeOf (repetition a i j) x) x (h .assignment-is) (repetition-conf (G .nodes) (length (G .edges)) k (typeOf a x) (inVar a x) x fs (absent→unused a x) (λ τ e. used a x e) (omega arith)
+      let few : length fs ≤ len p = factors-few G fs p ne (h .path-is) in
+      at (typeOf (repetition a i j) x) x (h .assignment-is) (repetition-conf (G .nodes) (length (G .edges)) k (typeOf a x) (inVar a x) x fs (absent→unused a x) (λ τ e. typed→used a x e) (omega arith)
       (all-both (λ f r l. conforms a (s .0) (f .0) (f .1) r l x) fs (h .answers) (factors-short fs p (h .path-is) b)))

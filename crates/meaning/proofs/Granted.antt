@@ -84,11 +84,11 @@ module _ (image pattern : List ℕ) (n : ℕ) (ok : fixedFault image pattern n �
       let g = granted image pattern n ok in
       listing-unique (graphOf image) (g .read .valid) (patternOf pattern) (g .accepted .sound) (restrictorOf n) l s h ∙ sym listing-is
 
-  few-nodes : graphOf image .nodes ≤ 200
+  pub few-nodes : graphOf image .nodes ≤ 200
   unfolding opened
   few-nodes = granted image pattern n ok .read .few-nodes
 
-  few-edges : length (graphOf image .edges) ≤ 200
+  pub few-edges : length (graphOf image .edges) ≤ 200
   unfolding opened
   few-edges = let g : edgeCount image ≤ 200 = granted image pattern n ok .read .few-edges in omega (arith, length-map (upFrom (edgeCount image) 0) (edgeRow image), length-up (edgeCount image) 0)
 
@@ -106,13 +106,18 @@ module _ (image pattern : List ℕ) (n : ℕ) (ok : fixedFault image pattern n �
       let k = short (graphOf image) ρ p (in-graph (graphOf image) (g .read .valid) (patternOf pattern) p μ (a .base-answer .means)) (a .base-answer .restricted) in
       omega (arith, longest-few ρ, k)
 
-  pub no-longer : (r : Record) → r ∈ fullListing image pattern n → length r ≤ 20000
+  -- the header's bound, GPC_MOST_RECORD_WORDS
+  pub header-bound : (r : Record) → r ∈ fullListing image pattern n → length r ≤ 16410
   unfolding opened
-  no-longer r m =
+  header-bound r m =
       let g = granted image pattern n ok in
       let h = members r .0 m in
       let k = record-size (graphOf image) (patternOf pattern) (g .accepted .sound) (g .accepted .shallow) (h .path) (h .assignment) (h .answer .base-answer .means) (path-few (h .path) (h .assignment) (h .answer)) in
       rw (h .record-is) k
+
+  -- 01: no record exceeds 20,000 words
+  pub no-longer : (r : Record) → r ∈ fullListing image pattern n → length r ≤ 20000
+  no-longer r m = omega (arith, header-bound r m)
 
   -- records followed by words: what follows is the same where the whole is, so no record begins another
   pub records-part : (r s : Record) → r ∈ fullListing image pattern n → s ∈ fullListing image pattern n → (x y : List ℕ) → r ++ x ≡ s ++ y → x ≡ y

@@ -5,6 +5,7 @@ pub mod Members
 pub mod Unused
 pub mod Derived
 pub mod Types
+pub mod OneType
 pub mod Domain
 pub mod Unification
 pub mod Factors
@@ -28,6 +29,9 @@ pub mod ImageRead
 pub mod Examples
 pub mod Rules
 pub mod Untyped
+pub mod Named
+pub mod Parts
+pub mod WholeTable
 pub mod Lists
 pub mod TypeWords
 pub mod Reading
@@ -37,4 +41,5 @@ pub mod Pages
 pub mod Calls
 pub mod Bytes
 pub mod Judged
+pub mod AnyAssignment
 pub mod After

@@ -1,4 +1,4 @@
--- No record is longer than 20,000 words: a variable under d repetitions takes at most 1 + 5 d n words on a path of n edges.
+-- No record is longer than 16,410 words: a variable under d repetitions takes at most 1 + 5 d n words on a path of n edges.
 use mathlib.Core.Path.{_∙_, _≡_, ap, refl}
 use mathlib.Core.List.{List, [], _++_, _∷_, map}
 use mathlib.Core.Option.{Option, none, some}
@@ -119,8 +119,8 @@ module _ (G : Graph) where
   vars-size μ k h [] = omega arith
   vars-size μ k h (x ∷ xs) = omega (arith, length-append (slotWords (μ x)) (variableWords xs μ), h x, vars-size μ k h xs)
 
-  -- two twoDeep, on a path of at most 200 edges
-  pub record-size : (π : Pattern) → Sound π → nesting π ≤ 2 → (p : Walk) (μ : Assignment) → Meaning G π p μ → len p ≤ 200 → length (recordOf p μ) ≤ 20000
+  -- two repetitions deep, on a path of at most 200 edges: eight values of at most 2,001 words, and a path of at most 402
+  pub record-size : (π : Pattern) → Sound π → nesting π ≤ 2 → (p : Walk) (μ : Assignment) → Meaning G π p μ → len p ≤ 200 → length (recordOf p μ) ≤ 16410
   unfolding opened Small
   record-size π s n p μ m h =
       let z = vars-size μ (1 + 5 * (2 * len p)) (size π s 2 n p μ m) eight in

@@ -7,9 +7,9 @@ use mathlib.Core.Logic.{_↔_, _≢_}
 use Prim.Native.Nat.{_<_, ℕ}
 use native.Mathlib.Omega.{arith}
 use lib.ListN.{length}
-use Rattle.meaning.proofs.Accepted.{clear, typed-pattern}
+use Rattle.meaning.proofs.Accepted.{WellFormed, clear, rows-fine, typed-pattern}
 use Rattle.meaning.proofs.Causes.{lowest-found, lowest-some}
-use Rattle.meaning.proofs.Logic.{either, is-false, no-false, no-none, not-false, or-cases, some-inj}
+use Rattle.meaning.proofs.Logic.{either, is-false, no-false, no-none, or-cases, some-inj}
 use Rattle.meaning.proofs.Opened.{opened}
 use Rattle.meaning.proofs.Rows.{item-is}
 use Rattle.meaning.proofs.Types.{wellTyped-iff}
@@ -58,7 +58,7 @@ module _ (t : List Row) (ok : (i : ℕ) → i < length t → fine t i (formAt t 
   unfolding opened
   row-typed→ i h e π q = typed→ π (row-variables i h π q) (sym (ap (onPattern untyped) q) ∙ e)
 
-  row-typed← : (i : ℕ) → i < length t → RowTyped t i → fault16 t i ≡ false
+  pub row-typed← : (i : ℕ) → i < length t → RowTyped t i → fault16 t i ≡ false
   unfolding opened
   row-typed← i h w = go (itemAt t i) refl
     where
@@ -85,13 +85,6 @@ module _ (t : List Row) (ok : (i : ℕ) → i < length t → fine t i (formAt t 
       go false e = absurd (u .no-type (typed→ (u .π) (row-variables i h (u .π) (u .item-is)) e))
 
 -- ------------------------------------------------------------------ refused by 16
--- no row has a fault of 12 to 15
-pub record WellFormed (t : List Row) : Type 0 where
-  pub no-12 : (i : ℕ) → i < length t → fault12 t i ≡ false
-  pub no-13 : (i : ℕ) → i < length t → fault13 t i ≡ false
-  pub no-14 : (i : ℕ) → i < length t → fault14 t i ≡ false
-  pub no-15 : (i : ℕ) → i < length t → fault15 t i ≡ false
-
 -- row i of a well-formed table has no type, and it is the lowest such row
 pub record LowestUntyped (t : List Row) (i : ℕ) : Type 0 where
   pub well-formed : WellFormed t
@@ -122,7 +115,7 @@ none-first : (n : ℕ) (o : Option ℕ) (c : Cause) → o ≡ none → firstOf (
 unfolding opened
 none-first n o c e = ap (λ (x : Option ℕ). firstOf (atRow n x) c) e
 
-lowest-clear : (t : List Row) (f : ℕ → Bool) → ((i : ℕ) → i < length t → f i ≡ false) → lowest (length t) 0 f ≡ none
+pub lowest-clear : (t : List Row) (f : ℕ → Bool) → ((i : ℕ) → i < length t → f i ≡ false) → lowest (length t) 0 f ≡ none
 unfolding opened
 lowest-clear t f h = go (lowest (length t) 0 f) refl
   where
@@ -142,29 +135,35 @@ refused-16→ t i e =
     let c = pass 14 16 i (l (fault14 t)) c₁₅ (omega arith) (b .1) in
     let d = pass 15 16 i (l (fault15 t)) c₁₆ (omega arith) (c .1) in
     let z = lowest-some (length t) 0 (fault16 t) i (at-16 i (l (fault16 t)) (d .1)) in
-    let ok : (j : ℕ) → j < length t → fine t j (formAt t j) ≡ true = λ j h. not-false (fine t j (formAt t j)) (clear t 12 (fault12 t) (a .0) j h) in
+    let w : WellFormed t = record { no-12 = clear t 12 (fault12 t) (a .0); no-13 = clear t 13 (fault13 t) (b .0); no-14 = clear t 14 (fault14 t) (c .0); no-15 = clear t 15 (fault15 t) (d .0) } in
+    let ok = rows-fine t w in
     let k : i < length t = omega (arith, z .1) in
     record {
-      well-formed = record { no-12 = clear t 12 (fault12 t) (a .0); no-13 = clear t 13 (fault13 t) (b .0); no-14 = clear t 14 (fault14 t) (c .0); no-15 = clear t 15 (fault15 t) (d .0) };
+      well-formed = w;
       is-row = k;
       no-type = row-untyped→ t ok i k (z .2);
       lower-typed = λ j h. row-typed→ t ok j (omega arith) (z .3 j (omega arith) h);
     }
 
-refused-16← : (t : List Row) (i : ℕ) → LowestUntyped t i → tableFault t ≡ some (16, i)
+-- a well-formed table has no cause but 16
+pub formed-fault : (t : List Row) → WellFormed t → tableFault t ≡ rowCause t 16 (fault16 t)
 unfolding opened
-refused-16← t i u =
+formed-fault t w =
     let l : (ℕ → Bool) → Option ℕ = λ f. lowest (length t) 0 f in
     let c₁₆ : Cause = rowCause t 16 (fault16 t) in
     let c₁₅ : Cause = firstOf (rowCause t 15 (fault15 t)) c₁₆ in
     let c₁₄ : Cause = firstOf (rowCause t 14 (fault14 t)) c₁₅ in
-    let ok : (j : ℕ) → j < length t → fine t j (formAt t j) ≡ true = λ j h. not-false (fine t j (formAt t j)) (u .well-formed .no-12 j h) in
+    none-first 12 (l (fault12 t)) (firstOf (rowCause t 13 (fault13 t)) c₁₄) (lowest-clear t (fault12 t) (w .no-12))
+    ∙ (none-first 13 (l (fault13 t)) c₁₄ (lowest-clear t (fault13 t) (w .no-13))
+    ∙ (none-first 14 (l (fault14 t)) c₁₅ (lowest-clear t (fault14 t) (w .no-14)) ∙ none-first 15 (l (fault15 t)) c₁₆ (lowest-clear t (fault15 t) (w .no-15))))
+
+refused-16← : (t : List Row) (i : ℕ) → LowestUntyped t i → tableFault t ≡ some (16, i)
+unfolding opened
+refused-16← t i u =
+    let ok = rows-fine t (u .well-formed) in
     let k : i < length t = u .is-row in
     let found = lowest-found (length t) 0 (fault16 t) i (omega arith) (omega arith) (row-untyped← t ok i k (u .no-type)) (λ j _ h. row-typed← t ok j (omega arith) (u .lower-typed j h)) in
-    none-first 12 (l (fault12 t)) (firstOf (rowCause t 13 (fault13 t)) c₁₄) (lowest-clear t (fault12 t) (u .well-formed .no-12))
-    ∙ (none-first 13 (l (fault13 t)) c₁₄ (lowest-clear t (fault13 t) (u .well-formed .no-13))
-    ∙ (none-first 14 (l (fault14 t)) c₁₅ (lowest-clear t (fault14 t) (u .well-formed .no-14))
-    ∙ (none-first 15 (l (fault15 t)) c₁₆ (lowest-clear t (fault15 t) (u .well-formed .no-15)) ∙ ap (atRow 16) found)))
+    formed-fault t (u .well-formed) ∙ ap (atRow 16) found
 
 pub refused-16 : (t : List Row) (i : ℕ) → (tableFault t ≡ some (16, i)) ↔ LowestUntyped t i
 unfolding opened

@@ -130,3 +130,12 @@ unused→absent (conditioned a θ) x e = go (fits (typeOf a) θ) (unused→absen
     go true h = h
     go false h = ap (conditionedTy false (typeOf a x)) e
 unused→absent (repetition a n m) x e = ap repetitionTy (unused→absent a x e)
+
+-- a variable with a type is used
+pub typed→used : (π : Pattern) (x : ℕ) {τ : Ty} → typeOf π x ≡ typed τ → inVar π x ≡ true
+unfolding opened
+typed→used π x e = go (inVar π x) refl
+  where
+    go : (b : Bool) → inVar π x ≡ b → inVar π x ≡ true
+    go true q = q
+    go false q = no-typed-absent (sym e ∙ unused→absent π x q)
