@@ -25,9 +25,9 @@ use Rattle.image.specs.declared.sections.Sections.{Sections}
 use Rattle.image.proofs.Edges.{ends-are-nodes}
 use Rattle.image.proofs.Rising.{labels-rise, properties-rise}
 use Rattle.compiled.specs.Words.{edgeIn, edgeOf, edgesIn, graphIn, labelsIn, names, nodesIn, numberIn, propertiesIn, someNames, valueIn, valueOf}
-use Rattle.compiled.specs.Parts.{restrictorIn, tableIn}
+use Rattle.compiled.specs.Parts.{HeadKept, restrictorIn, tableIn}
 use Rattle.compiled.specs.Sound.{Lawful}
-use Rattle.compiled.specs.Copies.{Compiled, EdgesPut, GraphFilled, HeadFilled, LabelWord, LabelsPut, PartFilled, PropertiesPut, PropertyWord, RowsFilled, TablePut}
+use Rattle.compiled.specs.Copies.{Compiled, EdgeWord, GraphFilled, HeadFilled, LabelWord, PartFilled, PropertyWord, Put, RowsFilled, TableWord}
 use Rattle.compiled.specs.Derived.{RowsAre, planWords, typeIn}
 use Rattle.compiled.proofs.Frames.{restrictor-kept, table-kept, tabled-kept}
 use Rattle.compiled.proofs.Parts.{accepted-short}
@@ -61,13 +61,13 @@ module _ (g₀ : List ℕ) (a image c d : ℕ) (room : 4 ≤ length g₀) where
   four-3 = getD-set-same (set (set (set g₀ 0 a) 1 image) 2 c) 3 d 0 (simp length-set (omega arith))
 
 module _ (image : List ℕ) (s : Sections) (k : Checked image s) (g₀ g₂ g₃ g : List ℕ) (room : length g₀ ≡ 3008)
-    (es : EdgesPut image (s .edges .count) (four g₀ (s .nodes .count) (s .edges .count) (s .labels .count) (s .properties .count) (omega arith)) g₂)
-    (ls : LabelsPut image (s .labels .count) g₂ g₃) (ps : PropertiesPut image (s .properties .count) g₃ g) where
+    (es : Put 8 (EdgeWord image) (s .edges .count) (four g₀ (s .nodes .count) (s .edges .count) (s .labels .count) (s .properties .count) (omega arith)) g₂)
+    (ls : Put 208 (LabelWord image) (s .labels .count) g₂ g₃) (ps : Put 1008 (PropertyWord image) (s .properties .count) g₃ g) where
   abbrev g₁ : List ℕ
   g₁ = four g₀ (s .nodes .count) (s .edges .count) (s .labels .count) (s .properties .count) (omega arith)
 
   begun : (j : ℕ) → j < 8 → getD g j 0 ≡ getD g₁ j 0
-  begun j h = ps .put .low j (omega arith) ∙ ls .put .low j (omega arith) ∙ es .put .low j h
+  begun j h = ps .low j (omega arith) ∙ ls .low j (omega arith) ∙ es .low j h
 
   copied : Copied image g
   unfolding nodesIn edgesIn labelsIn propertiesIn edgeIn
@@ -78,11 +78,11 @@ module _ (image : List ℕ) (s : Sections) (k : Checked image s) (g₀ g₂ g₃
     properties = begun 3 (omega arith) ∙ four-3 g₀ (s .nodes .count) (s .edges .count) (s .labels .count) (s .properties .count) (omega arith) ∙ k .laid .properties;
     edge = λ e h.
         let few = image-read image (k .sound) .few-edges in
-        ap edgeOf (ps .put .low (8 + e) (omega arith) ∙ ls .put .low (8 + e) (omega arith)) ∙ es .put .here e (omega (arith, k .laid .edges)) .is;
+        ap edgeOf (ps .low (8 + e) (omega arith) ∙ ls .low (8 + e) (omega arith)) ∙ es .here e (omega (arith, k .laid .edges)) .is;
     label = λ i h.
         let few = image-read image (k .sound) .few-labels in
-        rw (ps .put .low (208 + i) (omega arith)) (ls .put .here i (omega (arith, k .laid .labels)));
-    property = λ i h. ps .put .here i (omega (arith, k .laid .properties));
+        rw (ps .low (208 + i) (omega arith)) (ls .here i (omega (arith, k .laid .labels)));
+    property = λ i h. ps .here i (omega (arith, k .laid .properties));
   }
 
 -- ------------------------------------------------------------------ the graph
@@ -165,36 +165,36 @@ module _ (image : List ℕ) (sound : imageFault image ≡ none) (g : List ℕ) (
 
 -- the way out of fill_graph
 pub graph-filled : (image : List ℕ) (s : Sections) → Checked image s → (g₀ g₂ g₃ g : List ℕ) → length g₀ ≡ 3008
-    → EdgesPut image (s .edges .count) (set (set (set (set g₀ 0 (s .nodes .count)) 1 (s .edges .count)) 2 (s .labels .count)) 3 (s .properties .count)) g₂
-    → LabelsPut image (s .labels .count) g₂ g₃ → PropertiesPut image (s .properties .count) g₃ g → GraphFilled image g
+    → Put 8 (EdgeWord image) (s .edges .count) (set (set (set (set g₀ 0 (s .nodes .count)) 1 (s .edges .count)) 2 (s .labels .count)) 3 (s .properties .count)) g₂
+    → Put 208 (LabelWord image) (s .labels .count) g₂ g₃ → Put 1008 (PropertyWord image) (s .properties .count) g₃ g → GraphFilled image g
 graph-filled image s k g₀ g₂ g₃ g room es ls ps =
     let c = copied image s k g₀ g₂ g₃ g room es ls ps in
     record { lawful = lawful image (k .sound) g c; is = graph-is image g c }
 
 -- ------------------------------------------------------------------ the part
 -- the table and the restrictor, once they are put
-module _ (pattern : List ℕ) (n : ℕ) (p₀ p : List ℕ) (short : length pattern ≤ 320) (room : length p₀ ≡ planWords) (put : TablePut pattern (length pattern) (set (set p₀ 0 (length pattern)) 1 n) p) where
+module _ (pattern : List ℕ) (n : ℕ) (p₀ p : List ℕ) (short : length pattern ≤ 320) (room : length p₀ ≡ planWords) (put : Put 8 (TableWord pattern) (length pattern) (set (set p₀ 0 (length pattern)) 1 n) p) where
   word-0 : getD p 0 0 ≡ length pattern
-  word-0 = put .put .low 0 (omega arith) ∙ getD-set-other (set p₀ 0 (length pattern)) 1 0 n 0 (λ e. omega arith) ∙ getD-set-same p₀ 0 (length pattern) 0 (omega arith)
+  word-0 = put .low 0 (omega arith) ∙ getD-set-other (set p₀ 0 (length pattern)) 1 0 n 0 (λ e. omega arith) ∙ getD-set-same p₀ 0 (length pattern) 0 (omega arith)
 
   word-1 : getD p 1 0 ≡ n
-  word-1 = put .put .low 1 (omega arith) ∙ getD-set-same (set p₀ 0 (length pattern)) 1 n 0 (simp length-set (omega arith))
+  word-1 = put .low 1 (omega arith) ∙ getD-set-same (set p₀ 0 (length pattern)) 1 n 0 (simp length-set (omega arith))
 
   long : length p ≡ planWords
-  long = omega (arith, put .put .long, length-set (set p₀ 0 (length pattern)) 1 n, length-set p₀ 0 (length pattern))
+  long = omega (arith, put .long, length-set (set p₀ 0 (length pattern)) 1 n, length-set p₀ 0 (length pattern))
 
   whole-table : length (take (length pattern) (drop 8 p)) ≡ length pattern
   whole-table = length-take-le (length pattern) (drop 8 p) (simp length-drop (omega (arith, long)))
 
   the-table : tableIn p ≡ pattern
   unfolding tableIn
-  the-table = rw word-0 (ext-getD 0 (take (length pattern) (drop 8 p)) pattern whole-table (λ i h. getD-take (length pattern) (drop 8 p) i 0 (omega (arith, whole-table)) ∙ getD-drop 8 p i 0 ∙ put .put .here i (omega (arith, whole-table)) .is))
+  the-table = rw word-0 (ext-getD 0 (take (length pattern) (drop 8 p)) pattern whole-table (λ i h. getD-take (length pattern) (drop 8 p) i 0 (omega (arith, whole-table)) ∙ getD-drop 8 p i 0 ∙ put .here i (omega (arith, whole-table)) .is))
 
   -- the way out of fill_head
   pub head-filled : HeadFilled pattern n p
   unfolding restrictorIn
   head-filled = record {
-    tabled = record { size = ap length the-table ∙ sym word-0; short = omega (arith, word-0); small = λ j h. put .put .here j (omega (arith, word-0)) .small };
+    tabled = record { size = ap length the-table ∙ sym word-0; short = omega (arith, word-0); small = λ j h. put .here j (omega (arith, word-0)) .small };
     is = the-table;
     restrictor-is = ap restrictorOf word-1;
   }
@@ -204,16 +204,12 @@ module _ (pattern : List ℕ) (n : ℕ) (p words : List ℕ) (e : patternFault p
   q : List ℕ
   q = take 328 p ++ (words ++ drop (length p - 328) (drop 328 p))
 
-  q-long : length q ≡ length p
+  q-head : HeadKept p q
   unfolding q
-  q-long = behind-long p words long l
-
-  q-low : (j : ℕ) → j < 328 → getD q j 0 ≡ getD p j 0
-  unfolding q
-  q-low = behind-low p words long l
+  q-head = record { long = behind-long p words long l; low = behind-low p words long l }
 
   q-table : tableIn q ≡ pattern
-  q-table = table-kept p q (h .tabled) (omega (arith, long)) q-long q-low ∙ h .is
+  q-table = table-kept p q (h .tabled) q-head ∙ h .is
 
   few : (i : ℕ) → i * 5 + 5 ≤ length pattern → i < 64
   few i k = omega (arith, accepted-short pattern e)
@@ -233,10 +229,10 @@ module _ (pattern : List ℕ) (n : ℕ) (p words : List ℕ) (e : patternFault p
   filled-part : PartFilled pattern n (take 328 p ++ (words ++ drop (length p - 328) (drop 328 p)))
   unfolding q
   filled-part = record {
-    tabled = tabled-kept p q (h .tabled) (omega (arith, long)) q-long q-low;
+    tabled = tabled-kept p q (h .tabled) q-head;
     rows = q-rows;
     is = q-table;
-    restrictor-is = restrictor-kept p q (h .tabled) (omega (arith, long)) q-long q-low ∙ h .restrictor-is;
+    restrictor-is = restrictor-kept p q (h .tabled) q-head ∙ h .restrictor-is;
   }
 
 pub part-filled : (pattern : List ℕ) (n : ℕ) (p₀ p words : List ℕ) → patternFault pattern ≡ none → HeadFilled pattern n p → length p₀ ≡ planWords → length p ≡ length p₀ → length words ≡ length (take (length p - 328) (drop 328 p)) → RowsFilled pattern words

@@ -12,7 +12,7 @@ use borrow.Author.Tests.{eq-eqb, ne-eqb, eqb-true, eqb-false, ltb-true, ltb-fals
 use Rattle.meaning.specs.Image.{someRow}
 use Rattle.meaning.specs.Basics.{if_then_else_}
 use Rattle.meaning.specs.Graph.{Element}
-use Rattle.meaning.proofs.Logic.{and-both, and-l, and-r, is-false, or-l, or-r}
+use Rattle.meaning.proofs.Logic.{and-both, both-equal, is-false, or-l, or-r}
 use Rattle.compiled.specs.Words.{graphIn, isBelow, labelsIn, names, numberIn, pairOf, propertiesIn, someNames, valueIn, valueOf}
 use Rattle.compiled.specs.Sound.{Lawful, LowerBound, Rises}
 
@@ -28,8 +28,7 @@ names-is w x k h = go (eqb (pairOf w) (x * 65536 + k)) refl
     go false e =
         let p : pairOf w ≢ x * 65536 + k = eqb-false _ _ e in
         is-false _ (λ t.
-        let a : pairOf w / 65536 ≡ x = eqb-true _ _ (and-l (eqb (pairOf w / 65536) x) (eqb (pairOf w % 65536) k) t) in
-        let b : pairOf w % 65536 ≡ k = eqb-true _ _ (and-r (eqb (pairOf w / 65536) x) (eqb (pairOf w % 65536) k) t) in
+        let (a, b) = both-equal (pairOf w / 65536) x (pairOf w % 65536) k t in
         absurd (p (omega arith)))
 
 -- ------------------------------------------------------------------ rows

@@ -2,20 +2,15 @@
 use mathlib.Core.Path.{_≡_, refl, ap, sym, _∙_}
 use mathlib.Core.List.{List, map}
 use mathlib.Core.Option.{none, some}
-use Prim.Native.Nat.{ℕ, zero, suc, _+_, _<_, _≤_}
+use Prim.Native.Nat.{ℕ, zero, suc, _<_, _≤_}
 use native.Mathlib.Omega.{arith}
 use lib.ListN.{getElem?, length}
 use Rattle.meaning.specs.Basics.{upFrom}
 use Rattle.meaning.specs.Graph.{EdgeRow, Valid}
+use Rattle.meaning.proofs.Lists.{at-map-up, length-map-up}
 use Rattle.meaning.proofs.Logic.{no-some, some-inj}
 use Rattle.compiled.specs.Words.{edgeIn, edgesIn, graphIn, nodesIn}
 use Rattle.compiled.specs.Sound.{Lawful}
-
-at-map : (f : ℕ → EdgeRow) (n i e : ℕ) → e < n → getElem? (map f (upFrom n i)) e ≡ some (f (i + e))
-unfolding upFrom
-at-map f zero i e h = absurd (omega arith)
-at-map f (suc n) i zero h = ap (λ (k : ℕ). some (f k)) (omega arith)
-at-map f (suc n) i (suc e) h = at-map f n (suc i) e (omega arith) ∙ ap (λ (k : ℕ). some (f k)) (omega arith)
 
 past-map : (f : ℕ → EdgeRow) (n i e : ℕ) → n ≤ e → getElem? (map f (upFrom n i)) e ≡ none
 unfolding upFrom
@@ -29,11 +24,6 @@ in-map f zero i e r q = no-some (sym q)
 in-map f (suc n) i zero r q = omega arith
 in-map f (suc n) i (suc e) r q = omega (arith, in-map f n (suc i) e r q)
 
-long-map : (f : ℕ → EdgeRow) (n i : ℕ) → length (map f (upFrom n i)) ≡ n
-unfolding upFrom
-long-map f zero i = refl
-long-map f (suc n) i = ap suc (long-map f n (suc i))
-
 module _ (g : List ℕ) where
   pub nodes-are : graphIn g .nodes ≡ nodesIn g
   unfolding graphIn
@@ -41,11 +31,11 @@ module _ (g : List ℕ) where
 
   pub edges-are : length (graphIn g .edges) ≡ edgesIn g
   unfolding graphIn
-  edges-are = long-map (edgeIn g) (edgesIn g) 0
+  edges-are = length-map-up (edgeIn g) (edgesIn g) 0
 
   pub edge-is : (e : ℕ) → e < edgesIn g → getElem? (graphIn g .edges) e ≡ some (edgeIn g e)
   unfolding graphIn
-  edge-is e h = at-map (edgeIn g) (edgesIn g) 0 e h ∙ ap (λ (k : ℕ). some (edgeIn g k)) (omega arith)
+  edge-is e h = at-map-up (edgeIn g) (edgesIn g) 0 e h ∙ ap (λ (k : ℕ). some (edgeIn g k)) (omega arith)
 
   -- no number past the edges is an edge
   pub no-edge : (e : ℕ) → edgesIn g ≤ e → getElem? (graphIn g .edges) e ≡ none

@@ -10,12 +10,13 @@ use lib.Seq.{getD-drop, getD-take}
 use borrow.Author.Tests.{ltb-false, ne-eqb}
 use lib.Dec.{eqb}
 use Rattle.meaning.specs.Answer.{Restrictor, restrictorOf, simple, trail}
-use Rattle.meaning.proofs.Causes.{first-none, whole-none}
+use Rattle.meaning.proofs.Causes.{whole-none}
 use Rattle.meaning.proofs.Logic.{or-false-r}
-use Rattle.meaning.specs.Basics.{if_then_else_, rowless}
-use Rattle.meaning.specs.Table.{badLength, patternFault, rowsOf, tableFault}
+use Rattle.meaning.specs.Basics.{if_then_else_}
+use Rattle.meaning.specs.Table.{badLength, patternFault}
 use Rattle.path.specs.Masks.{baseOf}
 use Rattle.path.specs.declared.base.Base.the-variants.{Simple, Trail}
+use Rattle.table.proofs.AcceptedTable.{no-causes}
 use Rattle.compiled.specs.Parts.{Tabled, restrictorIn, tableIn}
 
 module _ (p : List ℕ) (t : Tabled p) (j : ℕ) (h : j < length (tableIn p)) where
@@ -63,7 +64,7 @@ module _ (p : List ℕ) (n : ℕ) (h : n ≡ getD p 1 0) where
       go false = refl
 
 pub accepted-short : (pattern : List ℕ) → patternFault pattern ≡ none → length pattern ≤ 320
-unfolding patternFault badLength
+unfolding badLength
 accepted-short pattern e =
-    let b = whole-none 11 (badLength pattern) (first-none (rowless 11 (badLength pattern)) (tableFault (rowsOf pattern)) e .0) in
+    let b = whole-none 11 (badLength pattern) (no-causes pattern e .0) in
     ltb-false 320 (length pattern) (or-false-r (eqb (length pattern) 0) _ (or-false-r (not (eqb (length pattern % 5) 0)) _ b))

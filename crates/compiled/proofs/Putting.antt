@@ -15,8 +15,8 @@ module _ (at : ℕ) (P : ℕ → ℕ → Type 0) where
   pub put-none : (g : List ℕ) → Put at P 0 g g
   put-none g = record { here = λ i h. absurd (omega arith); low = λ j h. refl; high = λ j h. refl; long = refl }
 
-  pub put-more : (n w : ℕ) (g₀ g : List ℕ) → at + n < length g → Put at P n g₀ g → P n w → Put at P (n + 1) g₀ (set g (at + n) w)
-  put-more n w g₀ g room k q = record {
+  pub put-more : (n m w : ℕ) (g₀ g : List ℕ) → n < m → at + m ≤ length g₀ → Put at P n g₀ g → P n w → Put at P (n + 1) g₀ (set g (at + n) w)
+  put-more n m w g₀ g more room k q = record {
     here = λ i h. go i h (eqb i n) refl;
     low = λ j h. getD-set-other g (at + n) j w 0 (λ z. omega arith) ∙ k .low j h;
     high = λ j h. getD-set-other g (at + n) j w 0 (λ z. omega arith) ∙ k .high j (omega arith);
@@ -24,7 +24,7 @@ module _ (at : ℕ) (P : ℕ → ℕ → Type 0) where
   }
     where
       go : (i : ℕ) → i < n + 1 → (c : Bool) → eqb i n ≡ c → P i (getD (set g (at + n) w) (at + i) 0)
-      go i h true e = rw (eqb-true i n e, getD-set-same g (at + n) w 0 room) q
+      go i h true e = rw (eqb-true i n e, getD-set-same g (at + n) w 0 (omega (arith, k .long))) q
       go i h false e =
           let z : i ≢ n = eqb-false i n e in
           rw (getD-set-other g (at + n) (at + i) w 0 (λ d. omega arith)) (k .here i (omega arith))

@@ -1,10 +1,10 @@
 -- The ways out of the readers of single words.
-use mathlib.Core.Path.{_≡_, sym}
+use mathlib.Core.Path.{_≡_}
 use mathlib.Core.List.{List}
 use mathlib.Core.Bool.{Bool, true}
-use Prim.Native.Nat.{ℕ, _*_, _+_, _%_, _/_, _≤_}
+use Prim.Native.Nat.{ℕ, _*_, _+_, _%_, _/_}
 use lib.Dec.{eqb}
-use lib.ListN.{length, getD, List·getD-eq-default}
+use lib.ListN.{getD}
 use Rattle.meaning.specs.Graph as graph
 use Rattle.meaning.specs.Graph.{Graph, labelled}
 use Rattle.meaning.specs.Table.{unless}
@@ -16,9 +16,6 @@ use Rattle.compiled.specs.declared.ids.Element.{Element}
 use Rattle.compiled.specs.declared.ids.Element.the-variants.{Node, Edge}
 use Rattle.compiled.specs.Words.{edgeIn, labelsIn, nodesIn, numberIn, propertiesIn}
 use Rattle.compiled.specs.Sound.{Lawful, Rises}
-
-pub past : (b : List ℕ) (at : ℕ) → length b ≤ at → 0 ≡ getD b at 0
-past b at h = sym (List·getD-eq-default b 0 h)
 
 module _ (g : List ℕ) (e w : ℕ) (h : w ≡ getD g (8 + e) 0) where
   pub first-is : w % 65536 ≡ edgeIn g e .first

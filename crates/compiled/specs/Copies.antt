@@ -39,19 +39,6 @@ pub record Put (at : ℕ) (P : ℕ → ℕ → Type 0) (n : ℕ) (g₀ g : List 
   pub long : length g ≡ length g₀
 
 -- ------------------------------------------------------------------ contracts
--- the words of the first n rows of each section, and of the table
-pub record EdgesPut (image : List ℕ) (n : ℕ) (g₀ g : List ℕ) : Type 0 where
-  pub put : Put 8 (EdgeWord image) n g₀ g
-
-pub record LabelsPut (image : List ℕ) (n : ℕ) (g₀ g : List ℕ) : Type 0 where
-  pub put : Put 208 (LabelWord image) n g₀ g
-
-pub record PropertiesPut (image : List ℕ) (n : ℕ) (g₀ g : List ℕ) : Type 0 where
-  pub put : Put 1008 (PropertyWord image) n g₀ g
-
-pub record TablePut (pattern : List ℕ) (n : ℕ) (p₀ p : List ℕ) : Type 0 where
-  pub put : Put 8 (TableWord pattern) n p₀ p
-
 pub record GraphFilled (image g : List ℕ) : Type 0 where
   pub lawful : Lawful g
   pub is : graphIn g ≡ graphOf image

@@ -23,3 +23,8 @@ pub record Tabled (p : List ℕ) : Type 0 where
   pub size : length (tableIn p) ≡ getD p 0 0
   pub short : getD p 0 0 ≤ 320
   pub small : (j : ℕ) → j < getD p 0 0 → getD p (8 + j) 0 < 65536
+
+-- the words of table and restrictor stay
+pub record HeadKept (p₀ p : List ℕ) : Type 0 where
+  pub long : length p ≡ length p₀
+  pub low : (j : ℕ) → j < 328 → getD p j 0 ≡ getD p₀ j 0

@@ -18,12 +18,12 @@ ghost use Prim.Native.Nat.{_≤_};
 ghost use lib.ListN.{length};
 ghost use Rattle.meaning.specs.Table.{patternFault};
 ghost use Rattle.image.specs.Sections.{Checked};
-ghost use Rattle.compiled.specs.Copies.{Compiled, EdgesPut, GraphFilled, HeadFilled, LabelsPut, PartFilled, PropertiesPut, RowsFilled, TablePut};
+ghost use Rattle.compiled.specs.Copies.{Compiled, EdgeWord, GraphFilled, HeadFilled, LabelWord, PartFilled, PropertyWord, Put, RowsFilled, TableWord};
 ghost use Rattle.compiled.specs.Derived.{graphWords, planWords};
 
 fn fill_edges(image: &[u8], s: Sections, graph: &mut [u64])
     requires { ⌜ Checked (now image) s × (length (now graph) ≡ graphWords) ⌝ }
-    ensures { λ _. ⌜ EdgesPut (now (image .entry)) (s .edges .count) (now (graph .entry)) (now (graph .exit)) ⌝ }
+    ensures { λ _. ⌜ Put 8 (EdgeWord (now (image .entry))) (s .edges .count) (now (graph .entry)) (now (graph .exit)) ⌝ }
 {
     let mut i: usize = 0;
     while i < s.edges.count {
@@ -35,7 +35,7 @@ fn fill_edges(image: &[u8], s: Sections, graph: &mut [u64])
 
 fn fill_labels(image: &[u8], s: Sections, graph: &mut [u64])
     requires { ⌜ Checked (now image) s × (length (now graph) ≡ graphWords) ⌝ }
-    ensures { λ _. ⌜ LabelsPut (now (image .entry)) (s .labels .count) (now (graph .entry)) (now (graph .exit)) ⌝ }
+    ensures { λ _. ⌜ Put 208 (LabelWord (now (image .entry))) (s .labels .count) (now (graph .entry)) (now (graph .exit)) ⌝ }
 {
     let mut i: usize = 0;
     while i < s.labels.count {
@@ -47,7 +47,7 @@ fn fill_labels(image: &[u8], s: Sections, graph: &mut [u64])
 
 fn fill_properties(image: &[u8], s: Sections, graph: &mut [u64])
     requires { ⌜ Checked (now image) s × (length (now graph) ≡ graphWords) ⌝ }
-    ensures { λ _. ⌜ PropertiesPut (now (image .entry)) (s .properties .count) (now (graph .entry)) (now (graph .exit)) ⌝ }
+    ensures { λ _. ⌜ Put 1008 (PropertyWord (now (image .entry))) (s .properties .count) (now (graph .entry)) (now (graph .exit)) ⌝ }
 {
     let mut i: usize = 0;
     while i < s.properties.count {
@@ -74,7 +74,7 @@ fn fill_graph(image: &[u8], s: Sections, graph: &mut [u64])
 // The words of a table, each in a word of the plan.
 fn fill_table(pattern: &[u16], plan: &mut [u64])
     requires { ⌜ (length (now pattern) ≤ 320) × (328 ≤ length (now plan)) ⌝ }
-    ensures { λ _. ⌜ TablePut (now (pattern .entry)) (length (now (pattern .entry))) (now (plan .entry)) (now (plan .exit)) ⌝ }
+    ensures { λ _. ⌜ Put 8 (TableWord (now (pattern .entry))) (length (now (pattern .entry))) (now (plan .entry)) (now (plan .exit)) ⌝ }
 {
     let mut i: usize = 0;
     while i < pattern.len() {

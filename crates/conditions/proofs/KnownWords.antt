@@ -7,8 +7,8 @@ use mathlib.Core.Logic.{_⊎_, inl, inr}
 use Prim.Native.Nat.{ℕ, _+_, _<_, _≤_}
 use native.Mathlib.Omega.{arith}
 use lib.Dec.{eqb}
-use lib.ListN.{getD, length, length-take, take}
-use lib.Seq.{getD-take}
+use lib.ListN.{getD, length, take}
+use lib.Seq.{getD-take, length-take-le}
 use borrow.Author.Tests.{eqb-true, eqb-false}
 use Rattle.compiled.specs.declared.ids.Element.the-variants as element
 use Rattle.matcher.proofs.Places.{view-first, view-none, viewAt}
@@ -36,21 +36,18 @@ module _ (code w : ℕ) where
 
 -- ------------------------------------------------------------------ binding_at
 module _ (rec : List ℕ) (known code place : ℕ) (l : known ≤ length rec) where
-  take-length : length (take known rec) ≡ known
-  take-length = simp length-take (omega arith)
-
   pub at-known : (r : Binding) → place < known → BindsWord code (getD rec place 0) r → BindsAt (take known rec) code place r
   unfolding elementAt
   at-known r h b = record {
     is = λ f c.
         let v : firstKnown (viewAt (take known rec) place) ≡ some (getD rec place 0) =
-        view-first (take known rec) place (omega (arith, take-length)) ∙ ap (λ (w : ℕ). some w) (getD-take known rec place 0 h) in
+        view-first (take known rec) place (omega (arith, length-take-le known rec l)) ∙ ap (λ (w : ℕ). some w) (getD-take known rec place 0 h) in
         b .is f c ∙ ap (elementAt f) (sym v);
   }
 
   pub at-unknown : known ≤ place → BindsAt (take known rec) code place Unknown
   unfolding elementAt
-  at-unknown h = record { is = λ f c. ap (elementAt f) (sym (view-none (take known rec) place (omega (arith, take-length)))) }
+  at-unknown h = record { is = λ f c. ap (elementAt f) (sym (view-none (take known rec) place (omega (arith, length-take-le known rec l)))) }
 
 -- ------------------------------------------------------------------ bound_by: the variables below x are bound
 pub record BindsBelow (ks types places : List ℕ) (b : Bound) (x : ℕ) : Type 0 where

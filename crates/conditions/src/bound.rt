@@ -40,7 +40,7 @@ impl Bound {
         s.binding
     }
 
-    // The same but for x.
+    // These bindings, with that of x put anew.
     pub fn with(self, x: usize, binding: Binding) -> Self
         requires { ⌜ x < 9 ⌝ }
         ensures { λ r. ⌜ Rebound self x binding r ⌝ }

@@ -1,8 +1,10 @@
--- Taking and dropping around the seam of two lists; the length of a run of numbers.
+-- Taking and dropping around the seam of two lists; the length of a run of numbers, and what stands in its image.
 use mathlib.Core.Path.{_∙_, _≡_, ap, refl, sym}
-use mathlib.Core.List.{List, _++_}
-use Prim.Native.Nat.{suc, zero, ℕ}
-use lib.ListN.{drop, length, take}
+use mathlib.Core.List.{List, _++_, map}
+use mathlib.Core.Option.{some}
+use Prim.Native.Nat.{_+_, _<_, suc, zero, ℕ}
+use native.Mathlib.Omega.{arith}
+use lib.ListN.{drop, getElem?, length, length-map, take}
 use lib.Seq.{drop-append-seam, take-append-seam}
 use Rattle.meaning.proofs.Opened.{opened}
 use Rattle.meaning.specs.Basics.{upFrom}
@@ -19,3 +21,14 @@ pub length-up : (n i : ℕ) → length (upFrom n i) ≡ n
 unfolding opened
 length-up zero i = refl
 length-up (suc n) i = ap suc (length-up n (suc i))
+
+-- what f makes of them
+module _ {A : Type 0} (f : ℕ → A) where
+  pub length-map-up : (n i : ℕ) → length (map f (upFrom n i)) ≡ n
+  length-map-up n i = length-map (upFrom n i) f ∙ length-up n i
+
+  pub at-map-up : (n i e : ℕ) → e < n → getElem? (map f (upFrom n i)) e ≡ some (f (i + e))
+  unfolding opened
+  at-map-up zero i e h = absurd (omega arith)
+  at-map-up (suc n) i zero h = ap (λ (k : ℕ). some (f k)) (omega arith)
+  at-map-up (suc n) i (suc e) h = at-map-up n (suc i) e (omega arith) ∙ ap (λ (k : ℕ). some (f k)) (omega arith)

@@ -6,6 +6,8 @@ use mathlib.Core.Bool.{Bool, _&&_, _||_, false, not, true}
 use mathlib.Core.Logic.{_⊎_, inl, inr}
 use Prim.Native.Nat.{ℕ}
 use native.Mathlib.Omega.{arith}
+use lib.Dec.{eqb}
+use borrow.Author.Tests.{eqb-true}
 use Rattle.meaning.specs.Basics.{All, _∈_, if_then_else_, orElse}
 
 module _ {A : Type 0} where
@@ -38,6 +40,9 @@ and-l false b e = no-false e
 pub and-r : (a b : Bool) → (a && b) ≡ true → b ≡ true
 and-r true b e = e
 and-r false b e = no-false e
+
+pub both-equal : (a b c d : ℕ) → (eqb a b && eqb c d) ≡ true → (a ≡ b) × (c ≡ d)
+both-equal a b c d e = (eqb-true a b (and-l (eqb a b) (eqb c d) e), eqb-true c d (and-r (eqb a b) (eqb c d) e))
 
 pub and-false : (a b : Bool) → (a && b) ≡ false → (a ≡ false) ⊎ (b ≡ false)
 and-false true b e = inr e

@@ -28,7 +28,7 @@ pub fn write_beginning(rec: &mut [u16], edges: u16, path: Path)
     write_behind(rec, edges, &at, n);
 }
 
-// The same of the whole path: its own number of edges.
+// The whole path: its own number of edges, and its words.
 pub fn write_path(rec: &mut [u16], path: Path)
     requires { ⌜ (path .len ≤ 200) × (2 * path .len + 2 ≤ length (now rec)) ⌝ }
     ensures { λ _. ⌜ now (rec .exit) ≡ over (pathWords (walkOf path)) (now (rec .entry)) ⌝ }

@@ -77,17 +77,14 @@ no-digit t (Maybe τ) e h = omega arith
 no-digit t (Group τ) e h = omega arith
 
 module _ (rec : List ℕ) (known t place : ℕ) (in-rec : known ≤ length rec) (bound : known ≤ 20000) where
-  pub size-is : length (take known rec) ≡ known
-  size-is = length-take-le known rec in-rec
-
   pub at : place < known → (us : List ℕ) × (viewAt (take known rec) place ≡ some (getD rec place 0 ∷ us)) × (viewAt (take known rec) (place + 1) ≡ some us)
-  at h = let (us, a, b) = view-cons (take known rec) place (omega (arith, size-is)) in (us, a ∙ ap (λ (w : ℕ). some (w ∷ us)) (getD-take known rec place 0 h), b)
+  at h = let (us, a, b) = view-cons (take known rec) place (omega (arith, length-take-le known rec in-rec)) in (us, a ∙ ap (λ (w : ℕ). some (w ∷ us)) (getD-take known rec place 0 h), b)
 
   pub nowhere : viewAt (take known rec) 65535 ≡ none
-  nowhere = view-far (take known rec) 65535 (omega (arith, size-is))
+  nowhere = view-far (take known rec) 65535 (omega (arith, length-take-le known rec in-rec))
 
   pub end-unknown : known ≤ place → EndsAt (take known rec) t place 65535
-  end-unknown h = record { is = λ f e. nowhere ∙ sym (after-unknown (take known rec) place f (omega (arith, size-is))); small = omega arith }
+  end-unknown h = record { is = λ f e. nowhere ∙ sym (after-unknown (take known rec) place f (omega (arith, length-take-le known rec in-rec))); small = omega arith }
 
   pub end-one : place < known → 1 ≤ t % 8 → t % 8 < 3 → EndsAt (take known rec) t place (place + 1)
   unfolding matcher-opened

@@ -5,11 +5,12 @@ use mathlib.Core.Option.{Option, none, some}
 use Prim.Native.Nat.{_*_, _+_, _-_, _<_, _≤_, suc, zero, ℕ}
 use native.Mathlib.Omega.{arith}
 use lib.ListN.{getD, length, take}
+use lib.Seq.{length-take-le}
 use Rattle.matcher.specs.Values.{afterEntry, afterValue, iterate, optionBind, skip}
 use Rattle.matcher.proofs.Opened.{matcher-opened}
 use Rattle.matcher.proofs.Places.{view-skip, viewAt}
 use Rattle.meaning.specs.Typing.{Ty, typed}
-use Rattle.records.proofs.Ends.{at, nowhere, size-is, view-past}
+use Rattle.records.proofs.Ends.{at, nowhere, view-past}
 use Rattle.typecode.specs.Codes.{codeOf, tyCode}
 use Rattle.records.specs.Ends.{EndsAt, EndsGroup}
 
@@ -32,7 +33,7 @@ group-done ks t from count place left g l = record { is = λ τ e. sym (g .is τ
 module _ (rec : List ℕ) (known t from count place left : ℕ) (in-rec : known ≤ length rec) (bound : known ≤ 20000) where
   pub group-unknown : Grouping (take known rec) t from count place left → 0 < left → known ≤ place → EndsGroup (take known rec) t from count 65535
   unfolding matcher-opened
-  group-unknown g n l = record { is = λ τ e. nowhere rec known t place in-rec bound ∙ sym (g .is τ e ∙ view-past (take known rec) place (omega (arith, size-is rec known t place in-rec bound)) (iterate left (afterEntry (afterValue τ))) (nothing τ left n)); small = omega arith }
+  group-unknown g n l = record { is = λ τ e. nowhere rec known t place in-rec bound ∙ sym (g .is τ e ∙ view-past (take known rec) place (omega (arith, length-take-le known rec in-rec)) (iterate left (afterEntry (afterValue τ))) (nothing τ left n)); small = omega arith }
     where
       nothing : (τ : Ty) (c : ℕ) → 0 < c → iterate c (afterEntry (afterValue τ)) [] ≡ none
       nothing τ zero n = absurd (omega arith)

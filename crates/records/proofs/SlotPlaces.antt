@@ -3,7 +3,7 @@ use mathlib.Core.Path.{_∙_, _≡_, ap, refl, sym}
 use mathlib.Core.List.{List, [], _∷_}
 use mathlib.Core.Option.{Option, none}
 use mathlib.Core.Bool.{Bool, false, true}
-use Prim.Native.Nat.{_+_, _<_, _≤_, ℕ}
+use Prim.Native.Nat.{_%_, _+_, _<_, _≤_, ℕ}
 use native.Mathlib.Omega.{arith}
 use lib.Dec.{eqb}
 use lib.ListN.{getD, length, length-set, set, take}
@@ -24,23 +24,21 @@ use Rattle.records.proofs.Moves.{views-are}
 
 -- ------------------------------------------------------------------ slot
 module _ (t place : ℕ) where
-  pub slot-absent : t ≡ 0 → Slot t place 65535
+  -- a value of no type has no place
+  untyped : (t % 8 + 3) % 8 < 4 → Slot t place 65535
   unfolding slotView codeOf
-  slot-absent z = record { is = λ ks k f e. view-far ks 65535 k ∙ go ks f e; small = omega arith }
+  untyped d = record { is = λ ks k f e. view-far ks 65535 k ∙ go ks f e; small = omega arith }
     where
       go : (ks : List ℕ) (f : Found) → t ≡ codeOf f → none ≡ slotView f (viewAt ks place)
       go ks absent e = refl
       go ks clash e = refl
-      go ks (typed τ) e = absurd (no-digit t τ e (omega arith))
+      go ks (typed τ) e = absurd (no-digit t τ e d)
+
+  pub slot-absent : t ≡ 0 → Slot t place 65535
+  slot-absent z = untyped (omega arith)
 
   pub slot-clash : t ≡ 7 → Slot t place 65535
-  unfolding slotView codeOf
-  slot-clash z = record { is = λ ks k f e. view-far ks 65535 k ∙ go ks f e; small = omega arith }
-    where
-      go : (ks : List ℕ) (f : Found) → t ≡ codeOf f → none ≡ slotView f (viewAt ks place)
-      go ks absent e = refl
-      go ks clash e = refl
-      go ks (typed τ) e = absurd (no-digit t τ e (omega arith))
+  slot-clash z = untyped (omega arith)
 
   pub slot-typed : place < 65536 → (t ≡ 0 → ⊥) → (t ≡ 7 → ⊥) → Slot t place place
   unfolding slotView codeOf

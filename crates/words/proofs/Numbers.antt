@@ -7,8 +7,8 @@ use native.Mathlib.Omega.{arith}
 use lib.ListN.{length, getD, List·getD-eq-default}
 use Rattle.meaning.specs.Image.{number}
 
-pub byte-past : (b : List ℕ) (at : ℕ) → length b ≤ at → 0 ≡ getD b at 0
-byte-past b at h = sym (List·getD-eq-default b 0 h)
+pub past : (b : List ℕ) (at : ℕ) → length b ≤ at → 0 ≡ getD b at 0
+past b at h = sym (List·getD-eq-default b 0 h)
 
 pub number-past : (b : List ℕ) (at : ℕ) → length b ≤ at → 0 ≡ number b at
 unfolding number

@@ -39,7 +39,7 @@ seek-end {f} {n} {i} s h =
     let e : n - i ≡ 0 = omega arith in
     s .same ∙ rw e
 
--- the same where a call answered c, and the count n is known by another name
+-- a turn whose test is the answer c of a call, and whose count n has the name m
 module _ {f : ℕ → Bool} {n i : ℕ} (s : Seeking f n i) where
   pub seek-more-by : (c : Bool) → i < n → c ≡ f i → c ≡ false → Seeking f n (i + 1)
   seek-more-by c h d e = seek-more s h (sym d ∙ e)

@@ -32,7 +32,7 @@ pub fn number_at(bytes: &[u8], at: usize) -> u16
     low + 256 * high
 }
 
-// The same as a size, with the bound that sums of sizes need.
+// The number as a size, with the bound that sums of sizes need.
 pub fn size_at(bytes: &[u8], at: usize) -> usize
     ensures { λ r. ⌜ Size (now (bytes .entry)) at r ⌝ }
 {

@@ -1,6 +1,8 @@
-use Prim.Native.Nat.{_-_, _≤_}
-use Rattle.compiled.specs.Copies.{EdgesPut}
-use Rattle.compiled.proofs.Copying.{few-edges, edges-more, edges-all, edges-none}
+use Prim.Native.Nat.{_+_, _-_, _≤_}
+use lib.ListN.{length}
+use Rattle.compiled.specs.Copies.{Put, EdgeWord}
+use Rattle.compiled.proofs.Copying.{edges-room}
+use Rattle.compiled.proofs.Putting.{put-all, put-more, put-none}
 use native.Mathlib.Omega.{arith}
 use borrow.Author.Needs.{needs}
 use Rattle.compiled.proofs.fill.fill_edges.Statement.{statement}
@@ -10,13 +12,13 @@ use Rattle.compiled.proofs.fill.fill_edges.Lts as lts
 use Rattle.compiled.proofs.copy.edge_word.Reads as edge-word-reads
 
 abbrev Inv-loop : tie.InvT-loop
-Inv-loop image s graph₀ i₀ graph i = (i ≤ s .edges .count) × (s .edges .count ≤ 200) × EdgesPut image i graph₀ graph
+Inv-loop image s graph₀ i₀ graph i = (i ≤ s .edges .count) × (8 + s .edges .count ≤ length graph₀) × Put 8 (EdgeWord image) i graph₀ graph
 
 abbrev μ-loop : tie.MeasureT-loop
 μ-loop image s graph₀ i₀ graph i = s .edges .count - i
 
 loop-holds : tie.Need-loop-holds Inv-loop μ-loop
-loop-holds c = search (few-edges, edges-none, arith)
+loop-holds c = search (edges-room, put-none, arith)
 
 edge-word-requires : tie.Need-edge-word-requires Inv-loop μ-loop
 edge-word-requires c κs = search needs
@@ -37,13 +39,13 @@ loop-less : tie.Need-loop-less Inv-loop μ-loop
 loop-less c = search needs
 
 loop-again : tie.Need-loop-again Inv-loop μ-loop
-loop-again c = search (edges-more, arith)
+loop-again c = search (put-more, arith)
 
 same-length : tie.Need-same-length Inv-loop μ-loop
 same-length c = search needs
 
 returns : tie.Need-returns Inv-loop μ-loop
-returns c = search (edges-all, arith)
+returns c = search (put-all, arith)
 
 pub fill-edges-spec : {M : Type 1} → statement M
 fill-edges-spec =

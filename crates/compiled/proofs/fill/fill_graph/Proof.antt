@@ -26,13 +26,13 @@ fill-edges-requires : tie.Need-fill-edges-requires
 fill-edges-requires c κs = search needs
 
 fill-labels-requires : tie.Need-fill-labels-requires
-fill-labels-requires c κs = (search needs, omega (arith, simp length-set at (c .before .before .before .fill-edges .ensures .put .long)))
+fill-labels-requires c κs = (search needs, omega (arith, simp length-set at (c .before .before .before .fill-edges .ensures .long)))
 
 fill-properties-requires : tie.Need-fill-properties-requires
-fill-properties-requires c κs = (search needs, omega (arith, c .before .before .before .fill-labels .ensures .put .long, simp length-set at (c .before .before .before .before .before .before .before .fill-edges .ensures .put .long)))
+fill-properties-requires c κs = (search needs, omega (arith, c .before .before .before .fill-labels .ensures .long, simp length-set at (c .before .before .before .before .before .before .before .fill-edges .ensures .long)))
 
 same-length : tie.Need-same-length
-same-length c = omega (arith, c .before .before .fill-properties .ensures .put .long, c .before .before .before .before .before .before .fill-labels .ensures .put .long, simp length-set at (c .before .before .before .before .before .before .before .before .before .before .fill-edges .ensures .put .long))
+same-length c = omega (arith, c .before .before .fill-properties .ensures .long, c .before .before .before .before .before .before .fill-labels .ensures .long, simp length-set at (c .before .before .before .before .before .before .before .before .before .before .fill-edges .ensures .long))
 
 returns : tie.Need-returns
 returns c = search (graph-filled, arith)

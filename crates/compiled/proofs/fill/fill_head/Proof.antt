@@ -17,7 +17,7 @@ fill-table-requires : tie.Need-fill-table-requires
 fill-table-requires c κs = (search (accepted-short, arith), simp length-set (omega arith))
 
 same-length : tie.Need-same-length
-same-length c = omega (arith, simp length-set at (c .before .before .fill-table .ensures .put .long))
+same-length c = omega (arith, simp length-set at (c .before .before .fill-table .ensures .long))
 
 returns : tie.Need-returns
 returns c = search (head-filled, accepted-short, arith)

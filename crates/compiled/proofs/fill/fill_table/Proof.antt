@@ -1,7 +1,8 @@
 use lib.ListN.{length}
-use Prim.Native.Nat.{_-_, _≤_}
-use Rattle.compiled.specs.Copies.{TablePut}
-use Rattle.compiled.proofs.Copying.{table-more, table-word-is, table-all, table-none}
+use Prim.Native.Nat.{_+_, _-_, _≤_}
+use Rattle.compiled.specs.Copies.{Put, TableWord}
+use Rattle.compiled.proofs.Copying.{table-word-is}
+use Rattle.compiled.proofs.Putting.{put-all, put-more, put-none}
 use native.Mathlib.Omega.{arith}
 use borrow.Author.Needs.{needs}
 use Rattle.compiled.proofs.fill.fill_table.Statement.{statement}
@@ -11,13 +12,13 @@ use Rattle.compiled.proofs.fill.fill_table.Lts as lts
 use Rattle.compiled.proofs.word.long.Reads as long-reads
 
 abbrev Inv-loop : tie.InvT-loop
-Inv-loop pattern plan₀ i₀ plan i = (i ≤ length pattern) × TablePut pattern i plan₀ plan
+Inv-loop pattern plan₀ i₀ plan i = (i ≤ length pattern) × (8 + length pattern ≤ length plan₀) × Put 8 (TableWord pattern) i plan₀ plan
 
 abbrev μ-loop : tie.MeasureT-loop
 μ-loop pattern plan₀ i₀ plan i = length pattern - i
 
 loop-holds : tie.Need-loop-holds Inv-loop μ-loop
-loop-holds c = search (table-none, arith)
+loop-holds c = search (put-none, arith)
 
 mul-long : tie.Need-mul-long Inv-loop μ-loop
 mul-long c = search needs
@@ -44,13 +45,13 @@ loop-less : tie.Need-loop-less Inv-loop μ-loop
 loop-less c = search needs
 
 loop-again : tie.Need-loop-again Inv-loop μ-loop
-loop-again c = search (table-more, table-word-is, arith)
+loop-again c = search (put-more, table-word-is, arith)
 
 same-length : tie.Need-same-length Inv-loop μ-loop
 same-length c = search needs
 
 returns : tie.Need-returns Inv-loop μ-loop
-returns c = search (table-all, arith)
+returns c = search (put-all, arith)
 
 pub fill-table-spec : {M : Type 1} → statement M
 fill-table-spec =

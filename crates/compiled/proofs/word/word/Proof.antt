@@ -1,4 +1,4 @@
-use Rattle.compiled.proofs.Reading.{past}
+use Rattle.words.proofs.Numbers.{past}
 use native.Mathlib.Omega.{arith}
 use borrow.Author.Needs.{needs}
 use Rattle.compiled.proofs.word.word.Statement.{statement}

@@ -1,6 +1,6 @@
 -- `printing::places::word_at` meets its contract. Assumes nothing.
 use native.Mathlib.Omega.{arith}
-use Rattle.words.proofs.Numbers.{byte-past}
+use Rattle.words.proofs.Numbers.{past}
 use borrow.Author.Needs.{needs}
 use Rattle.printing.proofs.places.word_at.Statement.{statement}
 use Rattle.printing.proofs.places.word_at.Tie as tie
@@ -18,7 +18,7 @@ returns : tie.Need-returns
 returns c = search needs
 
 returns-2 : tie.Need-returns-2
-returns-2 c = search (byte-past, arith)
+returns-2 c = search (past, arith)
 
 pub word-at-spec : {M : Type 1} → statement M
 word-at-spec = tie.close (tie.spec mul-wide shared-slice-read-wide wide-requires returns returns-2)
