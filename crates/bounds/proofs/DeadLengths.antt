@@ -3,7 +3,7 @@ use mathlib.Core.Path.{_≡_, sym}
 use mathlib.Core.List.{List, [], _++_, _∷_}
 use mathlib.Core.Bool.{false}
 use mathlib.Core.Option.{none}
-use Prim.Native.Nat.{_-_, _/_, _≤_, ℕ}
+use Prim.Native.Nat.{_-_, _/_, ℕ}
 use native.Mathlib.Omega.{arith}
 use lib.ListN.{length}
 use Rattle.compiled.specs.Parts.{patternIn, tableIn}
@@ -18,22 +18,15 @@ use Rattle.meaning.specs.Meaning.{Meaning}
 use Rattle.meaning.specs.Record.{places, variableWords}
 use Rattle.meaning.specs.Table.{patternFault}
 use Rattle.promises.specs.Goals.{baseIn, baseListing}
-use Rattle.rows.specs.Faults.{Stands}
 use Rattle.search.proofs.AnswerClasses.{answer-dead}
 use Rattle.search.proofs.Beginnings.{head-is}
 use Rattle.search.proofs.Opened.{search-opened}
 use Rattle.search.specs.Classes.{Dead}
-use Rattle.table.proofs.Roots.{root-accepted, root-long, root-pattern, root-stands}
+use Rattle.table.proofs.Roots.{root-accepted, root-pattern}
 use Rattle.bounds.specs.Lengths.{GreatestLength, LeastLength}
 use Rattle.bounds.specs.Rows.{Fewest, Most}
 
 module _ (plan : List ℕ) (ok : patternFault (tableIn plan) ≡ none) where
-  pub root-some : (k : ℕ) → k ≡ length (tableIn plan) / 5 → 1 ≤ k
-  root-some k e = omega (arith, root-long (tableIn plan) ok)
-
-  pub root-asked : (k : ℕ) → k ≡ length (tableIn plan) / 5 → Stands (tableIn plan) (k - 1)
-  root-asked k e = rw e (root-stands (tableIn plan) ok)
-
   -- no match of the root row has the length
   length-dead : (graph : List ℕ) → Lawful graph → (n : ℕ) → ((p : Walk) (μ : Assignment) → Meaning (graphIn graph) (patternIn plan) p μ → len p ≡ n → ⊥) → Dead (n ∷ []) (baseListing graph plan)
   unfolding search-opened baseListing

@@ -1,7 +1,8 @@
 -- `bounds::lengths::greatest_length` meets its contract. Assumes nothing.
 use native.Mathlib.Omega.{arith}
 use borrow.Author.Needs.{needs}
-use Rattle.bounds.proofs.DeadLengths.{greatest-is, root-asked, root-some}
+use Rattle.bounds.proofs.DeadLengths.{greatest-is}
+use Rattle.plan.proofs.TableSize.{root-some, root-there}
 use Rattle.bounds.proofs.lengths.greatest_length.Statement.{statement}
 use Rattle.bounds.proofs.lengths.greatest_length.Tie as tie
 
@@ -12,7 +13,7 @@ sub-most : tie.Need-sub-most
 sub-most c = search (root-some, arith)
 
 most-requires : tie.Need-most-requires
-most-requires c κs = search (root-asked, arith)
+most-requires c κs = search (root-there, arith)
 
 returns : tie.Need-returns
 returns c = search (greatest-is, arith)

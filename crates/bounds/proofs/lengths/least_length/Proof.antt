@@ -1,7 +1,8 @@
 -- `bounds::lengths::least_length` meets its contract. Assumes nothing.
 use native.Mathlib.Omega.{arith}
 use borrow.Author.Needs.{needs}
-use Rattle.bounds.proofs.DeadLengths.{least-is, root-asked, root-some}
+use Rattle.bounds.proofs.DeadLengths.{least-is}
+use Rattle.plan.proofs.TableSize.{root-some, root-there}
 use Rattle.bounds.proofs.lengths.least_length.Statement.{statement}
 use Rattle.bounds.proofs.lengths.least_length.Tie as tie
 
@@ -12,7 +13,7 @@ sub-least : tie.Need-sub-least
 sub-least c = search (root-some, arith)
 
 least-requires : tie.Need-least-requires
-least-requires c κs = search (root-asked, arith)
+least-requires c κs = search (root-there, arith)
 
 returns : tie.Need-returns
 returns c = search (least-is, arith)
