@@ -3,7 +3,7 @@ use mathlib.Core.Path.{_≡_, refl, sym, ap, _∙_}
 use mathlib.Core.Bool.{Bool, false, _&&_}
 use mathlib.Core.List.{List, [], _∷_}
 use mathlib.Core.Option.{Option, none, some}
-use Prim.Native.Nat.{ℕ, _+_, _*_, _-_, _/_, _<_, _≤_}
+use Prim.Native.Nat.{ℕ, _+_, _*_, _-_, _/_, _<_}
 use native.Mathlib.Omega.{arith}
 use lib.Dec.{eqb}
 use lib.ListN.{drop, length, take}
@@ -35,14 +35,8 @@ at-end-frontier (some (w ∷ ws)) = refl
 
 module _ (graph plan fit rec : List ℕ) (last : ℕ) (h : Prepared graph plan fit rec (length rec) last) where
   -- the last row of the table
-  root-room : (1 ≤ length (tableIn plan) / 5) × (length (tableIn plan) / 5 - 1 < 64)
-  root-room = let r = root-matchable graph plan fit rec (length rec) last h in (omega (arith, r .1 .0), r .1 .1)
-
-  pub some-row : (k : ℕ) → k ≡ length (tableIn plan) / 5 → 1 ≤ k
-  some-row k e = omega (arith, root-room .0)
-
   pub row-few : (k : ℕ) → k ≡ length (tableIn plan) / 5 → k - 1 < 64
-  row-few k e = omega (arith, root-room .1)
+  row-few k e = omega (arith, root-matchable graph plan fit rec (length rec) last h .1 .1)
 
   module _ (k : ℕ) (k-is : k ≡ length (tableIn plan) / 5) (at : List ℕ) (end : ℕ) (s₀ : Slotted (take (length rec) rec) (drop (typesAt (k - 1)) plan) (2 * last + 2) at end) where
     s : Slotted (take (length rec) rec) (drop (typesAt (root (tableIn plan))) plan) (2 * last + 2) at end

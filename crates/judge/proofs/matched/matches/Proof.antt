@@ -1,7 +1,8 @@
 -- `judge::matches` meets its contract. Assumes nothing.
 use native.Mathlib.Omega.{arith}
 use borrow.Author.Needs.{needs}
-use Rattle.judge.proofs.MatchWays.{match-ends, match-no, row-few, some-row}
+use Rattle.judge.proofs.MatchWays.{match-ends, match-no, row-few}
+use Rattle.plan.proofs.TableSize.{root-some}
 use Rattle.judge.proofs.matched.matches.Statement.{statement}
 use Rattle.judge.proofs.matched.matches.Tie as tie
 
@@ -9,7 +10,7 @@ rows-requires : tie.Need-rows-requires
 rows-requires c κs = search needs
 
 sub-row : tie.Need-sub-row
-sub-row c = search (some-row, arith)
+sub-row c = search (root-some, arith)
 
 known-slots-requires : tie.Need-known-slots-requires
 known-slots-requires c κs = search (row-few, arith)
