@@ -10,16 +10,17 @@ use lib.Dec.{ltb}
 use lib.ListN.{drop, length, replicate}
 use borrow.Author.Tests.{le-ltb, leb-true, ltb-false}
 use Rattle.meaning.proofs.Logic.{either, no-false, no-true}
-use Rattle.meaning.specs.Basics.{Cause, firstOf, rowless}
+use Rattle.meaning.specs.Basics.{firstOf, rowless}
+use Rattle.meaning.specs.Basics.{Cause as Fault}
 use Rattle.meaning.specs.FullListing.{fixedFault, judge}
 use Rattle.meaning.specs.Operations.{JudgeLeft, fillPageLeft, judgeRecord, judgeUnless}
 use Rattle.meaning.specs.Page.{Left, Lent, left}
 use Rattle.meaning.specs.Report.{bit, causeBytes, cleared, over, reportBytes, wideEnough}
 use Rattle.search.proofs.PageCall.{call-refused, call-unanswered}
-use Rattle.table.specs.declared.causes.Verdict.{Verdict}
-use Rattle.table.specs.Verdicts.{causeOf, isRefused}
-use Rattle.words.specs.Fault.{numberOf, rowOf}
+use Rattle.words.specs.Fault.{isRefused, numberOf, rowOf}
 use Rattle.words.proofs.Refusals.{cause-reported}
+use Rattle.gpc.specs.declared.cause.Cause.{Cause}
+use Rattle.gpc.specs.Cause.{causeOf}
 use Rattle.gpc.specs.Answered.{Begun, FirstCause, JudgeReported, RestKept}
 use Rattle.gpc.proofs.Ways.{narrow-is, wide-is}
 
@@ -34,7 +35,7 @@ cleared-rest : (n : ℕ) (a image : List ℕ) → drop n a ≡ drop n image → 
 unfolding cleared
 cleared-rest n a image e = ap (λ (w : List ℕ). replicate n 0 ++ w) e
 
-pub refusal-written : (v : Verdict) (a image : ℕ) (report₀ report : List ℕ) → a ≡ numberOf (causeOf v) → image ≡ rowOf (causeOf v) → report ≡ over (reportBytes a image 0 0 0 0) report₀ → report ≡ over (causeBytes (causeOf v)) report₀
+pub refusal-written : (v : Cause) (a image : ℕ) (report₀ report : List ℕ) → a ≡ numberOf (causeOf v) → image ≡ rowOf (causeOf v) → report ≡ over (reportBytes a image 0 0 0 0) report₀ → report ≡ over (causeBytes (causeOf v)) report₀
 refusal-written v a image report₀ report e f w = w ∙ rw (e, f, cause-reported (causeOf v)) refl
 
 -- ------------------------------------------------------------------ nothing refuses
@@ -48,18 +49,18 @@ verdict-reported image pattern n rec work₀ report₀ work₁ work report verdi
 
 -- ------------------------------------------------------------------ a cause, or none
 -- c is the first cause, found as the verdict v
-module _ (image pattern : List ℕ) (n : ℕ) (work : List ℕ) (v : Verdict) (first : FirstCause image pattern n work v) where
+module _ (image pattern : List ℕ) (n : ℕ) (work : List ℕ) (v : Cause) (first : FirstCause image pattern n work v) where
   found : causeOf v ≡ firstOf (fixedFault image pattern n) (rowless 22 (ltb (length work) 20000))
   found = first .is
 
-  none-first : (a b : Cause) → isRefused (firstOf a b) ≡ false → (a ≡ none) × (b ≡ none)
-  unfolding firstOf isRefused
+  none-first : (a b : Fault) → isRefused (firstOf a b) ≡ false → (a ≡ none) × (b ≡ none)
+  unfolding firstOf
   none-first none none e = (refl, refl)
   none-first none (some c) e = no-true e
   none-first (some c) b e = no-true e
 
   whole-none : (b : Bool) → rowless 22 b ≡ none → b ≡ false
-  unfolding rowless isRefused
+  unfolding rowless
   whole-none true e = no-true (ap isRefused e)
   whole-none false e = refl
 
@@ -72,8 +73,7 @@ module _ (image pattern : List ℕ) (n : ℕ) (work : List ℕ) (v : Verdict) (f
   pub roomy : (r : Bool) → r ≡ isRefused (causeOf v) → r ≡ false → 20000 ≤ length work
   roomy r e f = ltb-false (length work) 20000 (whole-none (ltb (length work) 20000) (neither r e f .1))
 
-  some-cause : (c : Cause) → isRefused c ≡ true → (x : ℕ × ℕ) × (c ≡ some x)
-  unfolding isRefused
+  some-cause : (c : Fault) → isRefused c ≡ true → (x : ℕ × ℕ) × (c ≡ some x)
   some-cause none e = no-false e
   some-cause (some x) e = (x, refl)
 

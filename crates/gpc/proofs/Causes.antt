@@ -1,81 +1,74 @@
--- The causes that refuse a call, each as a verdict; and the first of them.
+-- The first cause that refuses a call, from what was found of the image, the table, the restrictor and the work buffer.
 use mathlib.Core.Path.{_≡_, refl, sym, _∙_}
-use mathlib.Core.Bool.{not, _&&_}
+use mathlib.Core.Bool.{Bool, true, false, not, _&&_}
 use mathlib.Core.Option.{none, some}
 use mathlib.Core.List.{List}
 use Prim.Native.Nat.{ℕ, _<_, _≤_}
-use lib.Dec.{leb, ltb}
-use lib.ListN.{length}
 use native.Mathlib.Omega.{arith}
+use lib.Dec.{leb}
+use lib.ListN.{length}
 use borrow.Author.Tests.{le-leb, lt-leb, le-ltb, lt-ltb}
-use Rattle.meaning.specs.Basics.{Cause, firstOf, rowless}
+use Rattle.meaning.proofs.Logic.{no-false, no-true}
+use Rattle.meaning.specs.Basics.{firstOf, rowless}
+use Rattle.meaning.specs.Basics.{Cause as Fault}
 use Rattle.meaning.specs.FullListing.{fixedFault}
 use Rattle.meaning.specs.Image.{imageFault}
 use Rattle.meaning.specs.Table.{patternFault}
 use Rattle.image.specs.Verdict.{causeOf as readCause}
 use Rattle.image.specs.declared.reader.Verdict.{Verdict as Read}
-use Rattle.image.specs.declared.reader.Verdict.the-variants.{Accepted as Accepted′, TooShort, BadDirectory, TooManyRows, BadNode, BadEdge, BadLabel, BadProperty}
-use Rattle.words.specs.Fault.{numberOf, rowOf}
-use Rattle.table.specs.declared.causes.Verdict.{Verdict}
-use Rattle.table.specs.declared.causes.Verdict.the-variants.{Accepted, Refused}
-use Rattle.table.specs.Verdicts.{causeOf}
+use Rattle.table.specs.Verdict.{causeOf as checkCause}
+use Rattle.table.specs.declared.causes.Verdict.{Verdict as Checked}
+use Rattle.words.specs.Fault.{isRefused}
+use Rattle.gpc.specs.declared.cause.Cause.the-variants.{Nothing, Image, Pattern, Restrictor, ShortWork}
 use Rattle.gpc.specs.Answered.{FirstCause}
-
--- ------------------------------------------------------------------ the image
--- v is what the reader says of the image b, n and r are its number and its row
-module _ (image : List ℕ) (v : Read) (n : ℕ) (found : readCause v ≡ imageFault image) (number : n ≡ numberOf (readCause v)) where
-  no-number : (u : Read) → numberOf (readCause u) ≡ 0 → readCause u ≡ none
-  no-number Accepted′ e = refl
-  no-number TooShort e = absurd (omega arith)
-  no-number BadDirectory e = absurd (omega arith)
-  no-number TooManyRows e = absurd (omega arith)
-  no-number (BadNode i) e = absurd (omega arith)
-  no-number (BadEdge i) e = absurd (omega arith)
-  no-number (BadLabel i) e = absurd (omega arith)
-  no-number (BadProperty i) e = absurd (omega arith)
-
-  pub read-accepted : n ≡ 0 → causeOf Accepted ≡ imageFault image
-  unfolding causeOf
-  read-accepted z = sym (no-number v (sym number ∙ z)) ∙ found
-
-  as-numbers : (c : Cause) → (numberOf c ≡ 0 → ⊥) → some (numberOf c, rowOf c) ≡ c
-  as-numbers none h = absurd (h refl)
-  as-numbers (some c) h = refl
-
-  pub read-refused : (n ≡ 0 → ⊥) → (r : ℕ) → r ≡ rowOf (readCause v) → causeOf (Refused n r) ≡ imageFault image
-  unfolding causeOf
-  read-refused z r e = rw (number, e) (as-numbers (readCause v) (λ h. z (number ∙ h))) ∙ found
 
 -- ------------------------------------------------------------------ the restrictor
 module _ (n : ℕ) where
-  pub too-low : n < 1 → causeOf (Refused 21 0) ≡ rowless 21 (not (leb 1 n && leb n 4))
-  unfolding causeOf rowless
+  pub in-range : 1 ≤ n → n < 5 → true ≡ (leb 1 n && leb n 4)
+  in-range g h = rw (le-leb 1 n g, le-leb n 4 (omega arith)) refl
+
+  pub too-low : n < 1 → false ≡ (leb 1 n && leb n 4)
   too-low h = rw (lt-leb 1 n h) refl
 
-  pub too-high : 1 ≤ n → 4 < n → causeOf (Refused 21 0) ≡ rowless 21 (not (leb 1 n && leb n 4))
-  unfolding causeOf rowless
-  too-high g h = rw (le-leb 1 n g, lt-leb n 4 h) refl
-
-  pub in-range : 1 ≤ n → n ≤ 4 → causeOf Accepted ≡ rowless 21 (not (leb 1 n && leb n 4))
-  unfolding causeOf rowless
-  in-range g h = rw (le-leb 1 n g, le-leb n 4 h) refl
-
--- ------------------------------------------------------------------ the work buffer
-module _ (w : List ℕ) where
-  pub too-short : length w < 20000 → causeOf (Refused 22 0) ≡ rowless 22 (ltb (length w) 20000)
-  unfolding causeOf rowless
-  too-short h = rw (lt-ltb (length w) 20000 h) refl
-
-  pub long-enough : 20000 ≤ length w → causeOf Accepted ≡ rowless 22 (ltb (length w) 20000)
-  unfolding causeOf rowless
-  long-enough h = rw (le-ltb (length w) 20000 h) refl
+  pub too-high : 4 < n → false ≡ (leb 1 n && leb n 4)
+  too-high h = rw (le-leb 1 n (omega arith), lt-leb n 4 h) refl
 
 -- ------------------------------------------------------------------ in order
+no-cause : (c : Fault) (r : Bool) → r ≡ isRefused c → r ≡ false → c ≡ none
+no-cause none r e f = refl
+no-cause (some x) r e f = no-true (sym e ∙ f)
 
--- i, t, n, w: what was found of the image, the table, the restrictor, the work buffer
-pub all-tried : (image pattern work : List ℕ) (restrictor : ℕ) (i t n w a f r : Verdict) → causeOf t ≡ patternFault pattern → causeOf n ≡ rowless 21 (not (leb 1 restrictor && leb restrictor 4))
-    → causeOf a ≡ firstOf (causeOf t) (causeOf n) → causeOf i ≡ imageFault image → causeOf f ≡ firstOf (causeOf i) (causeOf a)
-    → causeOf w ≡ rowless 22 (ltb (length work) 20000) → causeOf r ≡ firstOf (causeOf f) (causeOf w)
-    → FirstCause image pattern restrictor work r
-unfolding fixedFault
-all-tried image pattern work restrictor i t n w a f r e₁ e₂ e₃ e₄ e₅ e₆ e₇ = record { is = e₇ ∙ rw (e₅, e₃, e₁, e₂, e₄, e₆) refl }
+first-cause : (c d : Fault) (r : Bool) → r ≡ isRefused c → r ≡ true → c ≡ firstOf c d
+unfolding firstOf
+first-cause none d r e t = no-false (sym e ∙ t)
+first-cause (some x) d r e t = refl
+
+-- v and u are the verdicts on the image and on the table, r and s whether they are refusals, t whether n is a restrictor
+module _ (image pattern : List ℕ) (n : ℕ) (work : List ℕ) (v : Read) (hv : readCause v ≡ imageFault image) (r : Bool) (hr : r ≡ isRefused (readCause v)) where
+  pub image-refused : r ≡ true → FirstCause image pattern n work (Image v)
+  unfolding fixedFault
+  image-refused e = record { is = rw (← hv, ← first-cause (readCause v) (firstOf (patternFault pattern) (rowless 21 (not (leb 1 n && leb n 4)))) r hr e) (first-cause (readCause v) _ r hr e) }
+
+  module _ (er : r ≡ false) (u : Checked) (hu : checkCause u ≡ patternFault pattern) (s : Bool) (hs : s ≡ isRefused (checkCause u)) where
+    read-accepted : imageFault image ≡ none
+    read-accepted = sym hv ∙ no-cause (readCause v) r hr er
+
+    pub pattern-refused : s ≡ true → FirstCause image pattern n work (Pattern u)
+    unfolding fixedFault firstOf
+    pattern-refused e = record { is = rw (read-accepted, ← hu, ← first-cause (checkCause u) (rowless 21 (not (leb 1 n && leb n 4))) s hs e) (first-cause (checkCause u) _ s hs e) }
+
+    module _ (es : s ≡ false) (t : Bool) (ht : t ≡ (leb 1 n && leb n 4)) where
+      check-accepted : patternFault pattern ≡ none
+      check-accepted = sym hu ∙ no-cause (checkCause u) s hs es
+
+      pub restrictor-refused : not t ≡ true → FirstCause image pattern n work Restrictor
+      unfolding fixedFault firstOf rowless
+      restrictor-refused e = record { is = rw (read-accepted, check-accepted, ← ht, e) refl }
+
+      pub work-refused : not t ≡ false → length work < 20000 → FirstCause image pattern n work ShortWork
+      unfolding fixedFault firstOf rowless
+      work-refused e h = record { is = rw (read-accepted, check-accepted, ← ht, e, lt-ltb (length work) 20000 h) refl }
+
+      pub nothing-refused : not t ≡ false → 20000 ≤ length work → FirstCause image pattern n work Nothing
+      unfolding fixedFault firstOf rowless
+      nothing-refused e h = record { is = rw (read-accepted, check-accepted, ← ht, e, le-ltb (length work) 20000 h) refl }

@@ -16,7 +16,7 @@ use Rattle.meaning.specs.Operations.{ReadLeft, readImage, CheckLeft, typesOrZer
 use Rattle.words.specs.Fault.{numberOf, rowOf}
 use Rattle.words.proofs.Refusals.{cause-reported}
 use Rattle.table.specs.declared.causes.Verdict.{Verdict}
-use Rattle.table.specs.Verdicts.{causeOf}
+use Rattle.table.specs.Verdict.{causeOf}
 use Rattle.table.specs.TypeArea.{TypesLeft}
 
 -- the test of a report area d, whose answer is s

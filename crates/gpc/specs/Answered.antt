@@ -9,12 +9,12 @@ use lib.ListN.{drop, length}
 use Rattle.meaning.specs.Basics.{firstOf, rowless}
 use Rattle.meaning.specs.FullListing.{fixedFault, judge}
 use Rattle.meaning.specs.Report.{bit, causeBytes, cleared, over, reportBytes, wideEnough}
-use Rattle.table.specs.Verdicts.{causeOf}
-use Rattle.table.specs.declared.causes.Verdict.{Verdict}
+use Rattle.gpc.specs.Cause.{causeOf}
+use Rattle.gpc.specs.declared.cause.Cause.{Cause}
 
--- v is the first cause that refuses a call, in the order of 01
-pub record FirstCause (image pattern : List ℕ) (n : ℕ) (work : List ℕ) (v : Verdict) : Type 0 where
-  pub is : causeOf v ≡ firstOf (fixedFault image pattern n) (rowless 22 (ltb (length work) 20000))
+-- c is the first cause that refuses a call, in the order of 01
+pub record FirstCause (image pattern : List ℕ) (n : ℕ) (work : List ℕ) (c : Cause) : Type 0 where
+  pub is : causeOf c ≡ firstOf (fixedFault image pattern n) (rowless 22 (ltb (length work) 20000))
 
 -- how a call begins: r is 0 if the report has no room, 1 if a cause refuses it, and then report tells the cause
 pub record Begun (image pattern : List ℕ) (n : ℕ) (work report₀ report : List ℕ) (r : ℕ) : Type 0 where

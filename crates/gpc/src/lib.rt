@@ -1,9 +1,11 @@
 // The operations for C: nothing but calls of the proved library and the report. Each promise is one equation with a definition of
 // `meaning`, and holds for all that is lent.
+mod cause;
 mod fixed;
 
+use cause::Cause;
 use fixed::first_cause;
-use table::Verdict;
+use records::Record;
 ghost use mathlib.Core.Path.{_≡_};
 ghost use mathlib.Core.Bool.{not};
 ghost use mathlib.Core.Option.{none};
@@ -13,7 +15,7 @@ ghost use Rattle.meaning.specs.FullListing.{fixedFault, judge};
 ghost use Rattle.meaning.specs.Page.{Left};
 ghost use Rattle.meaning.specs.Report.{bit, causeBytes, over, wideEnough};
 ghost use Rattle.meaning.specs.Operations.{ReadLeft, readImage, CheckLeft, checkPattern, JudgeLeft, judgeRecord, fillPageLeft};
-ghost use Rattle.table.specs.Verdicts.{causeOf};
+ghost use Rattle.gpc.specs.Cause.{causeOf};
 ghost use Rattle.gpc.specs.Answered.{Begun, JudgeReported, RestKept};
 
 // Whether the eight numbers do not fit.
@@ -50,7 +52,7 @@ pub extern "C" fn gpc_check_pattern(pattern: &[u16], types: &mut [u16], report: 
 }
 
 // The number and the row of a refusal; all else is 0.
-fn refuse(report: &mut [u8], cause: Verdict)
+fn refuse(report: &mut [u8], cause: Cause)
     requires { ⌜ 64 ≤ length (now report) ⌝ }
     ensures { λ _. ⌜ now (report .exit) ≡ over (causeBytes (causeOf cause)) (now (report .entry)) ⌝ }
 {
@@ -87,7 +89,7 @@ fn judge_in(image: &[u8], pattern: &[u16], restrictor: u64, rec: &[u16], work: &
     requires { ⌜ (fixedFault (now image) (now pattern) restrictor ≡ none) × (20000 ≤ length (now work)) ⌝ }
     ensures { λ r. ⌜ (r ≡ judge (now (image .entry)) (now (pattern .entry)) restrictor (now (rec .entry))) × RestKept (now (work .entry)) (now (work .exit)) ⌝ }
 {
-    calls::judge(image, pattern, restrictor, rec, &mut work[0..20000])
+    calls::judge(image, pattern, restrictor, rec, &mut work[0..Record::WORK])
 }
 
 // The judge's answer where nothing refuses the call.
@@ -103,7 +105,7 @@ fn report_verdict(
     ensures { λ _. ⌜ JudgeReported (now (image .entry)) (now (pattern .entry)) restrictor (now (rec .entry)) (now (work .entry)) (now (report .entry)) (now (work .exit)) (now (report .exit)) ⌝ }
 {
     let yes = judge_in(image, pattern, restrictor, rec, work);
-    words::clear(work, 20000);
+    words::clear(work, Record::WORK);
     words::write_report(report, 0, 0, verdict_number(yes), 0, 0, 0);
 }
 

@@ -10,7 +10,7 @@ ghost use mathlib.Core.Path.{_≡_};
 ghost use Rattle.meaning.specs.Image.{imageFault, rowFault};
 ghost use Rattle.image.specs.Sections.{Laid};
 ghost use Rattle.image.specs.Verdict.{causeOf};
-ghost use Rattle.words.specs.Fault.{numberOf, rowOf};
+ghost use Rattle.words.specs.Fault.{isRefused, numberOf, rowOf};
 
 // The last four name the faulty row of their section.
 pub enum Verdict {
@@ -25,6 +25,22 @@ pub enum Verdict {
 }
 
 impl Verdict {
+    // Whether there is a cause.
+    pub fn is_refused(self) -> bool
+        ensures { λ r. ⌜ r ≡ isRefused (causeOf self) ⌝ }
+    {
+        match self {
+            Verdict::Accepted => false,
+            Verdict::TooShort => true,
+            Verdict::BadDirectory => true,
+            Verdict::TooManyRows => true,
+            Verdict::BadNode(_) => true,
+            Verdict::BadEdge(_) => true,
+            Verdict::BadLabel(_) => true,
+            Verdict::BadProperty(_) => true,
+        }
+    }
+
     // The refusal's number, 0 where there is none.
     pub fn number(self) -> u64
         ensures { λ r. ⌜ r ≡ numberOf (causeOf self) ⌝ }

@@ -36,8 +36,8 @@ module _ (graph plan rec : List ℕ) (s : Sound graph plan) where
   pub too-far : (last : ℕ) → last ≡ getD rec 0 0 → 200 < last → Judges graph plan rec false
   too-far last q l = says-no graph plan rec (λ m. omega (arith, room graph plan rec s m .1))
 
-  pub cut-off : (last : ℕ) → last ≡ getD rec 0 0 → length rec < 2 * last + 2 → Judges graph plan rec false
-  cut-off last q l = says-no graph plan rec (λ m. omega (arith, room graph plan rec s m .0))
+  pub cut-off : (last words : ℕ) → last ≡ getD rec 0 0 → words ≡ 2 * last + 2 → length rec < words → Judges graph plan rec false
+  cut-off last words q e l = says-no graph plan rec (λ m. omega (arith, room graph plan rec s m .0))
 
   -- ------------------------------------------------------------------ the nodes of the path
   module _ (last : ℕ) (T : Told rec last) where

@@ -5,9 +5,7 @@ ghost use Prim.Native.Nat.{_+_, _*_, _<_};
 ghost use lib.ListN.{getD, length};
 
 // 01: the record type, for its associated constants and functions.
-pub struct Record {
-    pub words: usize,
-}
+pub struct Record;
 
 impl Record {
     // The word that stands for Nothing.

@@ -67,8 +67,8 @@ pub fn malformed(pattern: &[u16], i: usize) -> bool
     if misused(pattern, i, use_of(kind, 3), r.s) {
         return true;
     }
-    if kind == 8 {
-        return r.s < r.r;
+    match kind {
+        8 => r.s < r.r,
+        _ => false,
     }
-    false
 }

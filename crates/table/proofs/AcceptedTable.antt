@@ -1,8 +1,8 @@
 -- What an accepted table grants: every row may be gone into and typed, and no variable clashes.
-use mathlib.Core.Path.{_≡_, sym, ap, _∙_}
+use mathlib.Core.Path.{_≡_, refl, sym, ap, _∙_}
 use mathlib.Core.List.{List}
-use mathlib.Core.Option.{none}
-use mathlib.Core.Bool.{not, _||_}
+use mathlib.Core.Option.{none, some}
+use mathlib.Core.Bool.{Bool, false, not, _||_}
 use Prim.Native.Nat.{ℕ, _+_, _-_, _*_, _/_, _%_, _<_, _≤_}
 use native.Mathlib.Omega.{arith}
 use lib.Dec.{eqb, ltb}
@@ -11,19 +11,19 @@ use borrow.Author.Tests.{eqb-true, eqb-false}
 use Rattle.meaning.specs.Basics.{Cause, firstOf, rowless}
 use Rattle.meaning.specs.Typing.{clash, typeOf}
 use Rattle.meaning.specs.Table.{rowsOf, itemAt, asPattern, fault12, fault13, fault14, fault15, fault16, rowCause, tableFault, tablePattern, patternFault, patternOf, badLength}
-use Rattle.meaning.proofs.Logic.{not-false, or-false-l, or-false-r}
+use Rattle.meaning.proofs.Logic.{no-true, not-false, or-false-l, or-false-r}
 use Rattle.meaning.proofs.Causes.{first-none, whole-none}
 use Rattle.meaning.proofs.Accepted.{clear, table-accepted}
 use Rattle.meaning.proofs.Accepted.{Accepted as AcceptedPattern}
 use Rattle.rows.specs.Faults.{Formed, Stands}
 use Rattle.table.specs.Typing.{plainAt}
-use Rattle.table.specs.Verdicts.{causeOf}
+use Rattle.table.specs.Verdict.{causeOf}
 use Rattle.table.specs.TypeArea.{Checked}
 use Rattle.table.specs.declared.causes.Verdict.{Verdict}
-use Rattle.table.specs.declared.causes.Verdict.the-variants.{Accepted}
+use Rattle.words.specs.Fault.{isRefused}
 use Rattle.rows.proofs.Rows.{formed-by, in-rows, rows-length}
 use Rattle.table.proofs.TypedRows.{plain-typed, row-no-clash}
-use Rattle.table.proofs.Trying.{shallow-by}
+use Rattle.table.proofs.FirstFault.{shallow-by}
 
 module _ (pattern : List ℕ) (e : patternFault pattern ≡ none) where
   pub no-causes : (rowless 11 (badLength pattern) ≡ none) × (tableFault (rowsOf pattern) ≡ none)
@@ -88,6 +88,13 @@ pub accepted-pattern : (pattern : List ℕ) → Checked pattern → AcceptedPatt
 unfolding patternOf
 accepted-pattern pattern k = table-accepted (rowsOf pattern) (omega (arith, rows-length pattern, long pattern (k .no-fault))) (no-causes pattern (k .no-fault) .1)
 
-pub checked-by : (pattern : List ℕ) (v : Verdict) → causeOf v ≡ patternFault pattern → v ≡ Accepted → Checked pattern
-unfolding causeOf
-checked-by pattern v q e = accepted-checked pattern (sym q ∙ ap causeOf e)
+-- r is whether the verdict v is a refusal
+pub accepted-by : (pattern : List ℕ) (v : Verdict) (r : Bool) → r ≡ isRefused (causeOf v) → r ≡ false → causeOf v ≡ patternFault pattern → patternFault pattern ≡ none
+accepted-by pattern v r told e q = go (patternFault pattern) (sym (ap isRefused q) ∙ (sym told ∙ e))
+  where
+    go : (c : Cause) → isRefused c ≡ false → c ≡ none
+    go none n = refl
+    go (some c) n = no-true n
+
+pub checked-by : (pattern : List ℕ) (v : Verdict) (r : Bool) → causeOf v ≡ patternFault pattern → r ≡ isRefused (causeOf v) → r ≡ false → Checked pattern
+checked-by pattern v r q told e = accepted-checked pattern (accepted-by pattern v r told e q)

@@ -2,7 +2,7 @@
 use mathlib.Core.Path.{_≡_, refl, sym, ap, ap₂, _∙_}
 use mathlib.Core.List.{List, [], _∷_, _++_, append-assoc, append-nil}
 use mathlib.Core.Option.{none, some}
-use mathlib.Core.Bool.{Bool}
+use mathlib.Core.Bool.{Bool, true, false}
 use Prim.Native.Nat.{ℕ, zero, suc, _+_, _-_, _*_, _/_, _<_, _≤_}
 use native.Mathlib.Omega.{arith}
 use native.Mathlib.Numerals.{add-one}
@@ -17,12 +17,14 @@ use Rattle.meaning.specs.Report.{over, cleared}
 use Rattle.meaning.specs.Operations.{typesOrZeros}
 use Rattle.typecode.specs.Codes.{codeOf}
 use Rattle.table.specs.Typing.{plainAt, TypeIs}
-use Rattle.table.specs.Verdicts.{causeOf}
+use Rattle.table.specs.Verdict.{causeOf}
 use Rattle.table.specs.TypeArea.{octal, Checked, TypesLeft}
 use Rattle.table.specs.declared.causes.Verdict.{Verdict}
-use Rattle.table.specs.declared.causes.Verdict.the-variants.{Accepted, Refused}
+use Rattle.table.specs.declared.causes.Verdict.the-variants.{TypeAreaTooShort}
+use Rattle.words.specs.Fault.{isRefused}
+use Rattle.meaning.proofs.Logic.{no-true}
 use Rattle.table.proofs.Digits.{found-octal}
-use Rattle.table.proofs.AcceptedTable.{plain-root, type-no-clash}
+use Rattle.table.proofs.AcceptedTable.{accepted-by, plain-root, type-no-clash}
 
 -- ------------------------------------------------------------------ the loop over the variables
 abbrev wordsOf : List ℕ → ℕ → List ℕ
@@ -81,18 +83,22 @@ writing-all pattern d₀ d x w l =
 
 -- ------------------------------------------------------------------ check_types
 module _ (pattern d : List ℕ) where
-  pub left-short : length d < 48 → TypesLeft pattern d d (Refused 17 0)
-  unfolding causeOf
+  pub left-short : length d < 48 → TypesLeft pattern d d TypeAreaTooShort
   left-short h = record { verdict-is = rw (lt-ltb (length d) 48 h); types-are = rw (lt-ltb (length d) 48 h) }
 
-  pub left-types : (a : List ℕ) (v : Verdict) → 48 ≤ length d → causeOf v ≡ patternFault pattern → v ≡ Accepted → a ≡ over (typeWords (patternOf pattern)) d → TypesLeft pattern d a v
-  unfolding causeOf typesOrZeros
-  left-types a v h q e w =
-      let z : patternFault pattern ≡ none = sym q ∙ ap causeOf e in
-      record { verdict-is = q ∙ sym (ap (λ (b : Bool). if b then some (17, 0) else patternFault pattern) (le-ltb (length d) 48 h)); types-are = w ∙ sym (ap₂ (λ (b : Bool) (c : Cause). if b then d else over (typesOrZeros c pattern) d) (le-ltb (length d) 48 h) z) }
+  -- r is whether the verdict v is a refusal
+  module _ (v : Verdict) (r : Bool) (told : r ≡ isRefused (causeOf v)) (h : 48 ≤ length d) (q : causeOf v ≡ patternFault pattern) where
+    left-as : (a : List ℕ) → a ≡ over (typesOrZeros (patternFault pattern) pattern) d → TypesLeft pattern d a v
+    left-as a w = record { verdict-is = q ∙ sym (ap (λ (b : Bool). if b then some (17, 0) else patternFault pattern) (le-ltb (length d) 48 h)); types-are = w ∙ sym (ap (λ (b : Bool). if b then d else over (typesOrZeros (patternFault pattern) pattern) d) (le-ltb (length d) 48 h)) }
 
-  pub left-zeros : (a : List ℕ) (v : Verdict) (n i : ℕ) → 48 ≤ length d → causeOf v ≡ patternFault pattern → v ≡ Refused n i → a ≡ cleared 48 d → TypesLeft pattern d a v
-  unfolding causeOf typesOrZeros over cleared
-  left-zeros a v n i h q e w =
-      let z : patternFault pattern ≡ some (n, i) = sym q ∙ ap causeOf e in
-      record { verdict-is = q ∙ sym (ap (λ (b : Bool). if b then some (17, 0) else patternFault pattern) (le-ltb (length d) 48 h)); types-are = w ∙ sym (ap₂ (λ (b : Bool) (c : Cause). if b then d else over (typesOrZeros c pattern) d) (le-ltb (length d) 48 h) z) }
+    pub left-types : r ≡ false → (a : List ℕ) → a ≡ over (typeWords (patternOf pattern)) d → TypesLeft pattern d a v
+    unfolding typesOrZeros
+    left-types e a w = left-as a (w ∙ rw (accepted-by pattern v r told e q))
+
+    pub left-zeros : r ≡ true → (a : List ℕ) → a ≡ cleared 48 d → TypesLeft pattern d a v
+    unfolding typesOrZeros over cleared
+    left-zeros e a w = left-as a (w ∙ go (patternFault pattern) (sym e ∙ told ∙ ap isRefused q))
+      where
+        go : (c : Cause) → true ≡ isRefused c → cleared 48 d ≡ over (typesOrZeros c pattern) d
+        go none n = no-true n
+        go (some c) n = refl

@@ -2,7 +2,8 @@ pub mod Descent
 pub mod Bounds
 pub mod Plain
 pub mod TypedRows
-pub mod Trying
+pub mod Scanning
+pub mod FirstFault
 pub mod Digits
 pub mod AcceptedTable
 pub mod Roots

@@ -1,6 +1,6 @@
 pub mod Ready
 pub mod Repetition
 pub mod Typing
-pub mod Verdicts
+pub mod Verdict
 pub mod TypeArea
 pub mod Variables

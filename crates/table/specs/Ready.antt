@@ -1,13 +1,17 @@
 -- What the causes before it leave to a check of rows.
 use mathlib.Core.List.{List}
 use mathlib.Core.Bool.{Bool}
+use mathlib.Core.Option.{Option, none, some}
 use Prim.Native.Nat.{ℕ, _<_, _≤_}
-use lib.Dec.{eqb}
 use lib.ListN.{length}
-use Rattle.meaning.specs.Basics.{if_then_else_}
 use Rattle.meaning.specs.Pattern.{nesting}
-use Rattle.meaning.specs.Table.{Row, rowsOf, itemAt, asPattern, fault12, fault13, fault14, fault15, fault16}
+use Rattle.meaning.specs.Table.{rowsOf, itemAt, asPattern, fault12, fault13, fault14, fault15, fault16}
+use Rattle.meaning.specs.Table.{Row as RowOf}
 use Rattle.rows.specs.Faults.{Formed, Stands}
+use Rattle.table.specs.declared.lowest.Fault.{Fault}
+use Rattle.table.specs.declared.lowest.Fault.the-variants.{Malformed, Loose, Edgeless, TooDeep, Untyped}
+use Rattle.table.specs.declared.lowest.Row.{Row}
+use Rattle.table.specs.declared.lowest.Row.the-variants.{At, Nothing}
 
 -- no row has more than two repetitions one in another
 pub record Shallow (pattern : List ℕ) : Type 0 where
@@ -18,16 +22,22 @@ pub record Typable (pattern : List ℕ) (row : ℕ) : Type 0 where
   pub stands : Stands pattern row
   pub shallow : Shallow pattern
 
--- the fault of a number from 12 to 16
-unfoldable pub faultBy : ℕ → List Row → ℕ → Bool
-faultBy n rows =
-    if eqb n 12 then fault12 rows else
-    if eqb n 13 then fault13 rows else
-    if eqb n 14 then fault14 rows else
-    if eqb n 15 then fault15 rows else fault16 rows
+-- the test of a fault
+abbrev pub faultBy : Fault → List RowOf → ℕ → Bool
+faultBy Malformed = fault12
+faultBy Loose = fault13
+faultBy Edgeless = fault14
+faultBy TooDeep = fault15
+faultBy Untyped = fault16
 
--- what a check of the number may count on
-pub record Ready (n : ℕ) (pattern : List ℕ) : Type 0 where
-  pub least : 12 ≤ n
-  pub formed : 12 < n → Formed pattern
-  pub shallow : 15 < n → Shallow pattern
+-- what the test of a fault may count on: the faults before it were found at no row
+abbrev pub Ready : Fault → List ℕ → Type 0
+Ready Malformed pattern = Unit {0}
+Ready Loose pattern = Formed pattern
+Ready Edgeless pattern = Formed pattern
+Ready TooDeep pattern = Formed pattern
+Ready Untyped pattern = Formed pattern × Shallow pattern
+
+abbrev pub foundRow : Row → Option ℕ
+foundRow (At i) = some i
+foundRow Nothing = none

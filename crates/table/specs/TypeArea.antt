@@ -10,7 +10,7 @@ use Rattle.meaning.specs.Table.{patternFault}
 use Rattle.meaning.specs.Report.{over}
 use Rattle.meaning.specs.Operations.{typesOrZeros}
 use Rattle.table.specs.Ready.{Typable}
-use Rattle.table.specs.Verdicts.{causeOf}
+use Rattle.table.specs.Verdict.{causeOf}
 use Rattle.table.specs.declared.causes.Verdict.{Verdict}
 
 -- n digits to base 8, low one first

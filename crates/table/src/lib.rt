@@ -1,6 +1,7 @@
 // The check of a pattern table, 11 to 17 of 01, and its types: the first cause that holds, with the lowest row, and the 48 words of
 // the type area as 01 leaves them.
 mod causes;
+mod lowest;
 mod repetition;
 mod type_area;
 mod typing;

@@ -40,10 +40,11 @@ pub fn repeats_edgeless(pattern: &[u16], i: usize) -> bool
     ensures { λ r. ⌜ r ≡ fault14 (rowsOf (now (pattern .entry))) i ⌝ }
 {
     let r = row_at(pattern, i);
-    if r.kind == 8 {
-        return edgeless(pattern, r.p);
+    let kind = r.kind;
+    match kind {
+        8 => edgeless(pattern, r.p),
+        _ => false,
     }
-    false
 }
 
 // The greater of two depths.
@@ -78,8 +79,9 @@ pub fn too_deep(pattern: &[u16], i: usize) -> bool
     ensures { λ r. ⌜ r ≡ fault15 (rowsOf (now (pattern .entry))) i ⌝ }
 {
     let r = row_at(pattern, i);
-    if r.kind == 8 {
-        return 2 <= depth(pattern, r.p);
+    let kind = r.kind;
+    match kind {
+        8 => 2 <= depth(pattern, r.p),
+        _ => false,
     }
-    false
 }

@@ -48,17 +48,13 @@ pub fn check_types(pattern: &[u16], types: &mut [u16]) -> Verdict
     ensures { λ r. ⌜ TypesLeft (now (pattern .entry)) (now (types .entry)) (now (types .exit)) r ⌝ }
 {
     if types.len() < 48 {
-        return Verdict::Refused { number: 17, row: 0 };
+        return Verdict::TypeAreaTooShort;
     }
     let v = check(pattern);
-    match v {
-        Verdict::Accepted => {
-            write_types(pattern, types);
-            v
-        }
-        Verdict::Refused { number: _, row: _ } => {
-            clear(types, 48);
-            v
-        }
+    if v.is_refused() {
+        clear(types, 48);
+    } else {
+        write_types(pattern, types);
     }
+    v
 }

@@ -90,8 +90,9 @@ pub fn untyped(pattern: &[u16], i: usize) -> bool
     if clashes(pattern, i) {
         return true;
     }
-    if r.kind == 7 {
-        return !fits(pattern, r.p, r.q);
+    let kind = r.kind;
+    match kind {
+        7 => !fits(pattern, r.p, r.q),
+        _ => false,
     }
-    false
 }

@@ -1,12 +1,6 @@
 use borrow.Author.Needs.{needs}
 use Rattle.gpc.proofs.begin.Statement.{statement}
 use Rattle.gpc.proofs.begin.Tie as tie
-use Rattle.gpc.proofs.begin.Reads as reads
-use Rattle.gpc.proofs.begin.Lts as lts
-use Rattle.gpc.proofs.fixed.first_cause.Reads as first-cause-reads
-use Rattle.gpc.proofs.is_short.Reads as is-short-reads
-use Rattle.gpc.proofs.refuse.Reads as refuse-reads
-use Rattle.table.proofs.causes.Verdict.is_refused.Reads as is-refused-reads
 use native.Mathlib.Omega.{arith}
 use Rattle.gpc.proofs.Ways.{wide-enough}
 use Rattle.gpc.proofs.Answering.{begun-granted, begun-refused, begun-short}

@@ -1,11 +1,6 @@
 use borrow.Author.Needs.{needs}
 use Rattle.gpc.proofs.refuse.Statement.{statement}
 use Rattle.gpc.proofs.refuse.Tie as tie
-use Rattle.gpc.proofs.refuse.Reads as reads
-use Rattle.gpc.proofs.refuse.Lts as lts
-use Rattle.table.proofs.causes.Verdict.number.Reads as number-reads
-use Rattle.table.proofs.causes.Verdict.row.Reads as row-reads
-use Rattle.words.proofs.write_report.Reads as write-report-reads
 use native.Mathlib.Omega.{arith}
 use Rattle.gpc.proofs.Answering.{refusal-written}
 

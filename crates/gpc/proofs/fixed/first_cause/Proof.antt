@@ -1,57 +1,50 @@
+use Rattle.gpc.proofs.Causes.{image-refused, pattern-refused, restrictor-refused, work-refused, nothing-refused}
+use native.Mathlib.Omega.{arith}
 use borrow.Author.Needs.{needs}
 use Rattle.gpc.proofs.fixed.first_cause.Statement.{statement}
 use Rattle.gpc.proofs.fixed.first_cause.Tie as tie
-use Rattle.gpc.proofs.fixed.first_cause.Reads as reads
-use Rattle.gpc.proofs.fixed.first_cause.Lts as lts
-use Rattle.gpc.proofs.fixed.first.Reads as first-reads
-use Rattle.gpc.proofs.fixed.image_verdict.Reads as image-verdict-reads
-use Rattle.gpc.proofs.fixed.restrictor_verdict.Reads as restrictor-verdict-reads
-use Rattle.gpc.proofs.fixed.work_verdict.Reads as work-verdict-reads
-use Rattle.table.proofs.check.Reads as check-reads
-use native.Mathlib.Omega.{arith}
-use Rattle.gpc.proofs.Causes.{all-tried}
 
--- src/fixed.rt:63:9
+read-requires : tie.Need-read-requires
+read-requires c κs = search needs
+
+is-refused-requires : tie.Need-is-refused-requires
+is-refused-requires c κs = search needs
+
+returns : tie.Need-returns
+returns c = search (image-refused, arith)
+
 check-requires : tie.Need-check-requires
 check-requires c κs = search needs
 
--- src/fixed.rt:64:31
-restrictor-verdict-requires : tie.Need-restrictor-verdict-requires
-restrictor-verdict-requires c κs = search needs
+is-refused-requires-2 : tie.Need-is-refused-requires-2
+is-refused-requires-2 c κs = search needs
 
--- src/fixed.rt:64:9
-first-requires : tie.Need-first-requires
-first-requires c κs = search needs
+returns-2 : tie.Need-returns-2
+returns-2 c = search (pattern-refused, arith)
 
--- src/fixed.rt:65:23
-image-verdict-requires : tie.Need-image-verdict-requires
-image-verdict-requires c κs = search needs
+is-restrictor-requires : tie.Need-is-restrictor-requires
+is-restrictor-requires c κs = search needs
 
--- src/fixed.rt:65:9
-first-requires-2 : tie.Need-first-requires-2
-first-requires-2 c κs = search needs
+returns-3 : tie.Need-returns-3
+returns-3 c = search (restrictor-refused, arith)
 
--- src/fixed.rt:66:18
-work-verdict-requires : tie.Need-work-verdict-requires
-work-verdict-requires c κs = search needs
+returns-4 : tie.Need-returns-4
+returns-4 c = search (work-refused, arith)
 
--- src/fixed.rt:66:5
-first-requires-3 : tie.Need-first-requires-3
-first-requires-3 c κs = search needs
-
--- src/fixed.rt:60:1
-returns : tie.Need-returns
-returns c = search (all-tried, arith)
+returns-5 : tie.Need-returns-5
+returns-5 c = search (nothing-refused, arith)
 
 pub first-cause-spec : {M : Type 1} → statement M
 first-cause-spec =
     tie.close
     (tie.spec
+    read-requires
+    is-refused-requires
+    returns
     check-requires
-    restrictor-verdict-requires
-    first-requires
-    image-verdict-requires
-    first-requires-2
-    work-verdict-requires
-    first-requires-3
-    returns)
+    is-refused-requires-2
+    returns-2
+    is-restrictor-requires
+    returns-3
+    returns-4
+    returns-5)

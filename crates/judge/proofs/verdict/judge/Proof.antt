@@ -17,11 +17,8 @@ word-requires c κs = search needs
 returns-3 : tie.Need-returns-3
 returns-3 c = search (too-far, arith)
 
-mul-if4 : tie.Need-mul-if4
-mul-if4 c = search needs
-
-add-if4 : tie.Need-add-if4
-add-if4 c = search needs
+path-words-requires : tie.Need-path-words-requires
+path-words-requires c κs = search needs
 
 returns-4 : tie.Need-returns-4
 returns-4 c = search (cut-off, arith)
@@ -43,8 +40,7 @@ judge-spec =
     returns-2
     word-requires
     returns-3
-    mul-if4
-    add-if4
+    path-words-requires
     returns-4
     judge-path-requires
     same-length

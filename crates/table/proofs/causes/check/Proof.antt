@@ -1,4 +1,4 @@
-use Rattle.table.proofs.Trying.{check-partial, check-empty, check-long, check-table}
+use Rattle.table.proofs.FirstFault.{check-partial, check-empty, check-long, check-table}
 use native.Mathlib.Omega.{arith}
 use borrow.Author.Needs.{needs}
 use Rattle.table.proofs.causes.check.Statement.{statement}

@@ -8,7 +8,7 @@ row-at-requires : tie.Need-row-at-requires
 row-at-requires c κs = search needs
 
 edgeless-requires : tie.Need-edgeless-requires
-edgeless-requires c κs = p-stands (c .before .before .row-at .ensures) (search needs) (search needs) (search needs)
+edgeless-requires c κs = p-stands (c .before .row-at .ensures) (search needs) (search needs) (search needs)
 
 returns : tie.Need-returns
 returns c = search (fourteen-yes, arith)

@@ -8,7 +8,7 @@ row-at-requires : tie.Need-row-at-requires
 row-at-requires c κs = search needs
 
 depth-requires : tie.Need-depth-requires
-depth-requires c κs = p-stands (c .before .before .row-at .ensures) (search needs) (search needs) (search needs)
+depth-requires c κs = p-stands (c .before .row-at .ensures) (search needs) (search needs) (search needs)
 
 returns : tie.Need-returns
 returns c = search (fifteen-yes, arith)

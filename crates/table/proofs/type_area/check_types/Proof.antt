@@ -1,5 +1,5 @@
-use Rattle.table.proofs.AcceptedTable.{checked-by}
 use Rattle.table.proofs.Area.{left-short, left-types, left-zeros}
+use Rattle.table.proofs.AcceptedTable.{checked-by}
 use native.Mathlib.Omega.{arith}
 use borrow.Author.Needs.{needs}
 use Rattle.table.proofs.type_area.check_types.Statement.{statement}
@@ -11,29 +11,26 @@ returns c = search (left-short, arith)
 check-requires : tie.Need-check-requires
 check-requires c κs = search needs
 
-enum-told : tie.Need-enum-told
-enum-told c = search needs
-
-write-types-requires : tie.Need-write-types-requires
-write-types-requires c κs = search (checked-by, arith)
-
-enum-told-2 : tie.Need-enum-told-2
-enum-told-2 c = search needs
+is-refused-requires : tie.Need-is-refused-requires
+is-refused-requires c κs = search needs
 
 clear-requires : tie.Need-clear-requires
 clear-requires c κs = search needs
+
+write-types-requires : tie.Need-write-types-requires
+write-types-requires c κs = search (checked-by, arith)
 
 same-length : tie.Need-same-length
 same-length c = search needs
 
 returns-2 : tie.Need-returns-2
-returns-2 c = search (left-types, arith)
+returns-2 c = search (left-zeros, arith)
 
 same-length-2 : tie.Need-same-length-2
 same-length-2 c = search needs
 
 returns-3 : tie.Need-returns-3
-returns-3 c = search (left-zeros, arith)
+returns-3 c = search (left-types, arith)
 
 pub check-types-spec : {M : Type 1} → statement M
 check-types-spec =
@@ -41,10 +38,9 @@ check-types-spec =
     (tie.spec
     returns
     check-requires
-    enum-told
-    write-types-requires
-    enum-told-2
+    is-refused-requires
     clear-requires
+    write-types-requires
     same-length
     returns-2
     same-length-2

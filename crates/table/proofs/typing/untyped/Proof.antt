@@ -15,7 +15,7 @@ returns : tie.Need-returns
 returns c = search (untyped-clash, arith)
 
 fits-requires : tie.Need-fits-requires
-fits-requires c κs = (p-typable (c .before .before .before .before .row-at .ensures) (search needs) (search needs) (search needs), q-stands (c .before .before .before .before .row-at .ensures) (search needs) (search needs) (search needs))
+fits-requires c κs = (p-typable (c .before .before .before .row-at .ensures) (search needs) (search needs) (search needs), q-stands (c .before .before .before .row-at .ensures) (search needs) (search needs) (search needs))
 
 returns-2 : tie.Need-returns-2
 returns-2 c = search (untyped-fits, arith)

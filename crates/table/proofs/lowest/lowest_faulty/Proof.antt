@@ -1,24 +1,24 @@
-use Rattle.table.proofs.Trying.{Scanning, scan-none, scan-more, scan-hit, scan-end}
-use Rattle.table.specs.Ready.{faultBy}
-use Rattle.meaning.specs.Table.{rowsOf}
-use lib.ListN.{length}
 use Prim.Native.Nat.{_-_}
-use borrow.Author.Needs.{needs}
+use lib.ListN.{length}
+use Rattle.meaning.specs.Table.{rowsOf}
+use Rattle.table.specs.Ready.{faultBy}
+use Rattle.table.proofs.Scanning.{Scanning, scan-none, scan-more, scan-hit, scan-end}
 use native.Mathlib.Omega.{arith}
-use Rattle.table.proofs.causes.lowest.Statement.{statement}
-use Rattle.table.proofs.causes.lowest.Tie as tie
+use borrow.Author.Needs.{needs}
+use Rattle.table.proofs.lowest.lowest_faulty.Statement.{statement}
+use Rattle.table.proofs.lowest.lowest_faulty.Tie as tie
 
 abbrev Inv-loop : tie.InvT-loop
-Inv-loop t number rows i₀ i = Scanning (faultBy number (rowsOf t)) (length (rowsOf t)) i
+Inv-loop t fault rows i₀ i = Scanning (faultBy fault (rowsOf t)) (length (rowsOf t)) i
 
 abbrev μ-loop : tie.MeasureT-loop
-μ-loop t number rows i₀ i = rows - i
+μ-loop t fault rows i₀ i = rows - i
 
 loop-holds : tie.Need-loop-holds Inv-loop μ-loop
 loop-holds c = search (scan-none, arith)
 
-faulty-requires : tie.Need-faulty-requires Inv-loop μ-loop
-faulty-requires c κs = search needs
+is-faulty-requires : tie.Need-is-faulty-requires Inv-loop μ-loop
+is-faulty-requires c κs = search needs
 
 returns : tie.Need-returns Inv-loop μ-loop
 returns c = search (scan-hit, arith)
@@ -35,14 +35,14 @@ loop-again c = search (scan-more, arith)
 returns-2 : tie.Need-returns-2 Inv-loop μ-loop
 returns-2 c = search (scan-end, arith)
 
-pub lowest-spec : {M : Type 1} → statement M
-lowest-spec =
+pub lowest-faulty-spec : {M : Type 1} → statement M
+lowest-faulty-spec =
     tie.close
     (tie.spec
     Inv-loop
     μ-loop
     loop-holds
-    faulty-requires
+    is-faulty-requires
     returns
     add-i
     loop-less
