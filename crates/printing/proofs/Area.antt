@@ -70,7 +70,3 @@ types-at π n w i h = go (inVar π (suc i)) refl
         let (τ, has) = w (suc i) u in
         let e : take 6 (drop (6 * i) (typeWords π)) ≡ tyWords τ ++ replicate (6 - length (tyWords τ)) 0 = sym (slot-words (typeWords π) i) ∙ types-told π n (suc i) (is-variable i h) τ has in
         rw (has-iff π (suc i) τ .1 has) (type-at τ (typeWords π) (replicate (6 - length (tyWords τ)) 0) 6 (6 * i) e, type-fits π n (suc i) τ has)
-
--- read by the words that the checker writes, a record ends where the definitions end it
-pub record-ends : (π : Pattern) → nesting π ≤ 2 → WellTyped π → (w : List ℕ) (at r : ℕ) → RecordEnd (typeWords π) w at r → r ≡ min (at + recordSize (typeOf π) (drop at w)) (length w)
-record-ends π n t w at r h = h .is (typeOf π) (types-at π n t)
