@@ -3,10 +3,10 @@ use mathlib.Core.Path.{_∙_, _≡_, ap, refl, subst, sym}
 use mathlib.Core.List.{List, [], _++_, _∷_, append-nil}
 use mathlib.Core.Bool.{Bool, _&&_, false, not, true}
 use mathlib.Core.Option.{Option, none, some}
-use Prim.Native.Nat.{_*_, _+_, _<_, _≤_, suc, zero, ℕ}
+use Prim.Native.Nat.{_*_, _≤_, ℕ}
 use native.Mathlib.Omega.{arith}
 use lib.Dec.{leb, ltb}
-use lib.ListN.{drop, drop-of-length-le, length, length-append, length-replicate, replicate}
+use lib.ListN.{drop, drop-of-length-le, length, length-append}
 use borrow.Author.Tests.{le-leb, le-ltb}
 use Rattle.meaning.proofs.Accepted.{Accepted}
 use Rattle.meaning.proofs.Causes.{first-none}
@@ -14,7 +14,7 @@ use Rattle.meaning.proofs.Granted.{pattern-accepted}
 use Rattle.meaning.proofs.Logic.{no-none, some-inj}
 use Rattle.meaning.proofs.TypeWords.{length-padded}
 use Rattle.meaning.proofs.Types.{wellTyped-iff}
-use Rattle.meaning.specs.Basics.{Cause, atRow, each, eight, firstOf, lowest, rowless, upFrom}
+use Rattle.meaning.specs.Basics.{Cause, atRow, each, eight, firstOf, rowless, upFrom}
 use Rattle.meaning.specs.FullListing.{fixedFault}
 use Rattle.meaning.specs.Image.{imageFault, rowFault}
 use Rattle.meaning.specs.Operations.{CheckLeft, checkPattern, fillPageLeft, typesOrZeros}
@@ -24,7 +24,7 @@ use Rattle.meaning.specs.Table.{foundWords, padded, patternFault, patternOf, ro
 use Rattle.meaning.specs.Pattern.{Pattern}
 use Rattle.meaning.specs.Typing.{typeOf}
 use Rattle.search.proofs.PageCall.{call-refused}
-use Rattle.printing.specs.Run.{Filled, First, Roomy, TypesOf, lentOf}
+use Rattle.printing.specs.Run.{First, Roomy, TypesOf, lentOf}
 use Rattle.printing.proofs.Area.{types-at}
 use Rattle.printing.proofs.Reported.{refusal-read}
 

@@ -3,7 +3,7 @@ use mathlib.Core.Path.{_∙_, _≡_, ap, ap₂, refl, subst, sym}
 use mathlib.Core.List.{List, [], _++_, _∷_, append-assoc, append-nil}
 use mathlib.Core.Bool.{Bool, false, true}
 use mathlib.Core.Option.{none}
-use Prim.Native.Nat.{_%_, _+_, _-_, _<_, _^_, _≤_, suc, zero, ℕ}
+use Prim.Native.Nat.{_%_, _+_, _-_, _<_, _^_, _≤_, suc, ℕ}
 use native.Mathlib.Omega.{arith}
 use lib.Dec.{leb}
 use lib.ListN.{drop, length, length-append, length-replicate, replicate, take}
@@ -14,18 +14,18 @@ use Rattle.meaning.proofs.Granted.{full-not-empty, full-readable, full-sorted, 
 use Rattle.meaning.proofs.Logic.{all-of}
 use Rattle.meaning.proofs.Pages.{outcome-begins, printedRecords}
 use Rattle.meaning.proofs.Reading.{Readable, records-read}
-use Rattle.meaning.specs.Basics.{All, Cause, each, firstOf, if_then_else_, rowless}
+use Rattle.meaning.specs.Basics.{All, each, firstOf, if_then_else_, rowless}
 use Rattle.meaning.specs.FullListing.{fixedFault, fullListing}
 use Rattle.meaning.specs.Listing.{Before, Sorted}
 use Rattle.meaning.specs.Machine.{fillPage, hostCalls, lastOr, shownRecords}
 use Rattle.meaning.specs.Operations.{fillPageLeft}
-use Rattle.meaning.specs.Page.{Left, Lent, Outcome, after, filled, fit, isEmpty, join, left, needs, outcome, printed, printing, unlessFault}
+use Rattle.meaning.specs.Page.{Left, Lent, after, filled, fit, isEmpty, join, left, outcome, printed, printing, unlessFault}
 use Rattle.meaning.specs.Record.{Record, recordsIn}
 use Rattle.meaning.specs.Report.{bit, over, reportBytes, reported, wideEnough}
 use Rattle.meaning.specs.Table.{patternOf}
 use Rattle.meaning.specs.Typing.{Found, typeOf}
 use Rattle.search.proofs.Fitting.{fit-yes}
-use Rattle.printing.specs.Run.{Filled, First, Followed, Roomy, Run, Shown, TypesOf, Whole, lentOf, recordsOf}
+use Rattle.printing.specs.Run.{Filled, First, Followed, Roomy, Shown, TypesOf, Whole, lentOf, recordsOf}
 use Rattle.printing.specs.Sizes.{Marked}
 use Rattle.printing.proofs.Accepting.{no-fault}
 use Rattle.printing.proofs.Marks.{mark-is, records-words}

@@ -1,7 +1,6 @@
 -- `printing::lines::put_records` meets its contract. Assumes nothing.
 use lib.ListN.{length}
 use Prim.Native.Nat.{_≤_, _-_}
-use native.Mathlib.Omega.{arith}
 use borrow.Author.Needs.{needs}
 use Rattle.printing.proofs.lines.put_records.Statement.{statement}
 use Rattle.printing.proofs.lines.put_records.Tie as tie

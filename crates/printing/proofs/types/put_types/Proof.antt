@@ -1,6 +1,5 @@
 -- `printing::types::put_types` meets its contract. Assumes nothing.
 use Prim.Native.Nat.{_≤_, _-_}
-use native.Mathlib.Omega.{arith}
 use borrow.Author.Needs.{needs}
 use Rattle.printing.proofs.types.put_types.Statement.{statement}
 use Rattle.printing.proofs.types.put_types.Tie as tie
