@@ -1,21 +1,19 @@
 -- The 48 words that the checker writes are the type area that the records are read by. Assumes nothing.
-use mathlib.Core.Path.{_∙_, _≡_, ap, refl, subst, sym}
+use mathlib.Core.Path.{_∙_, _≡_, ap, refl, sym}
 use mathlib.Core.List.{List, [], _++_, _∷_, head-eq-of-cons-eq, tail-eq-of-cons-eq}
-use mathlib.Core.Bool.{Bool, false, true, _&&_}
-use Prim.Native.Nat.{_*_, _+_, _-_, _<_, _≤_, min, suc, zero, ℕ}
+use mathlib.Core.Bool.{Bool, false, true}
+use Prim.Native.Nat.{_*_, _+_, _-_, _<_, _≤_, suc, zero, ℕ}
 use native.Mathlib.Omega.{arith}
-use lib.Dec.{leb}
 use lib.ListN.{drop, getD, length, replicate, take}
 use lib.Seq.{drop-drop}
 use borrow.Author.Tests.{le-leb}
 use Rattle.meaning.specs.Pattern.{Pattern, inVar, nesting}
 use Rattle.meaning.specs.Table.{isVariable, tyWords, typeWords}
-use Rattle.meaning.specs.Typing.{Edge, Found, Group, Has, Maybe, Node, Ty, WellTyped, absent, typed, typeOf}
+use Rattle.meaning.specs.Typing.{Edge, Group, Maybe, Node, Ty, WellTyped, typeOf}
 use Rattle.meaning.proofs.TypeWords.{type-fits, types-told, typeSlot, unused-told}
 use Rattle.meaning.proofs.Types.{has-iff}
 use Rattle.meaning.proofs.Unused.{unused→absent}
-use Rattle.meaning.specs.Record.{recordSize}
-use Rattle.printing.specs.Sizes.{RecordEnd, SlotAt, TypeAt, TypesAt}
+use Rattle.printing.specs.Sizes.{SlotAt, TypeAt, TypesAt}
 use Rattle.printing.proofs.Ends.{head-is}
 
 -- no words are not some
@@ -70,7 +68,3 @@ types-at π n w i h = go (inVar π (suc i)) refl
         let (τ, has) = w (suc i) u in
         let e : take 6 (drop (6 * i) (typeWords π)) ≡ tyWords τ ++ replicate (6 - length (tyWords τ)) 0 = sym (slot-words (typeWords π) i) ∙ types-told π n (suc i) (is-variable i h) τ has in
         rw (has-iff π (suc i) τ .1 has) (type-at τ (typeWords π) (replicate (6 - length (tyWords τ)) 0) 6 (6 * i) e, type-fits π n (suc i) τ has)
-
--- read by the words that the checker writes, a record ends where the definitions end it
-pub record-ends : (π : Pattern) → nesting π ≤ 2 → WellTyped π → (w : List ℕ) (at r : ℕ) → RecordEnd (typeWords π) w at r → r ≡ min (at + recordSize (typeOf π) (drop at w)) (length w)
-record-ends π n t w at r h = h .is (typeOf π) (types-at π n t)

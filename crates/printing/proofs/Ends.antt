@@ -1,6 +1,6 @@
 -- The ways out of the functions that find where a path, a value and a record end. Assumes nothing.
 use mathlib.Core.Path.{_∙_, _≡_, ap, refl, sym}
-use mathlib.Core.List.{List, [], _∷_}
+use mathlib.Core.List.{List, _∷_}
 use mathlib.Core.Bool.{Bool, false, true}
 use Prim.Native.Nat.{_*_, _+_, _-_, _<_, _≤_, min, suc, zero, ℕ}
 use native.Mathlib.Omega.{arith}
@@ -8,7 +8,7 @@ use lib.Dec.{eqb, leb}
 use lib.ListN.{drop, getD, length}
 use lib.Seq.{drop-drop, getD-drop}
 use borrow.Author.Tests.{eq-eqb, leb-false, leb-true, ne-eqb}
-use Rattle.meaning.specs.Basics.{eight, if_then_else_}
+use Rattle.meaning.specs.Basics.{eight}
 use Rattle.meaning.specs.Record.{groupSize, pathSize, recordSize, slotSize, valueSize, variablesSize}
 use Rattle.meaning.specs.Table.{tyWords}
 use Rattle.meaning.specs.Typing.{Edge, Found, Group, Maybe, Node, Ty, absent, clash, typed}

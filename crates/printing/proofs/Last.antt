@@ -19,9 +19,10 @@ pub data Passed (f : ℕ → Found) (w : List ℕ) (last at : ℕ) : Type 0 wher
 pub record Seeking (t w : List ℕ) (last at : ℕ) : Type 0 where
   pub is : (f : ℕ → Found) → TypesAt f t → Passed f w last at
   pub within : (at ≤ length w) × (last ≤ length w)
+  pub inside : 0 < at → last < length w
 
 pub seeking-start : (t w : List ℕ) → Seeking t w 0 0
-seeking-start t w = record { is = λ f a. none-passed (omega arith); within = (omega arith, omega arith) }
+seeking-start t w = record { is = λ f a. none-passed (omega arith); within = (omega arith, omega arith); inside = λ h. absurd (omega (arith, h)) }
 
 -- a record that begins where others end
 next-start : (f : ℕ → Found) (w : List ℕ) (k at r : ℕ) → at ≡ startOf f w k → r ≡ min (at + recordSize f (drop at w)) (length w) → r ≡ min (startOf f w (suc k)) (length w)
@@ -30,7 +31,7 @@ next-start f w k at r e h = h ∙ ap (λ (i : ℕ). min (i + recordSize f (drop 
 
 pub seeking-more : (t w : List ℕ) (last at r : ℕ) → at < length w → Seeking t w last at → RecordEnd t w at r → Seeking t w at r
 unfolding startOf
-seeking-more t w last at r l s h = record { is = λ f a. go f a (s .is f a); within = (h .within .0, omega arith) }
+seeking-more t w last at r l s h = record { is = λ f a. go f a (s .is f a); within = (h .within .0, omega arith); inside = λ k. l }
   where
     go : (f : ℕ → Found) → TypesAt f t → Passed f w last at → Passed f w at r
     go f a (none-passed z) = one-passed zero z (next-start f w zero at r z (h .is f a))
@@ -39,7 +40,7 @@ seeking-more t w last at r l s h = record { is = λ f a. go f a (s .is f a); wit
         one-passed (suc k) i (next-start f w (suc k) at r i (h .is f a))
 
 pub seeking-end : (t w : List ℕ) (last at : ℕ) → length w ≤ at → Seeking t w last at → LastRecord t w last
-seeking-end t w last at l s = record { is = λ f a p. go f p (s .is f a); within = s .within .1 }
+seeking-end t w last at l s = record { is = λ f a p. go f p (s .is f a); within = s .within .1; inside = λ p. s .inside (omega (arith, p, l)) }
   where
     go : (f : ℕ → Found) → 0 < length w → Passed f w last at → (k : ℕ) × (last ≡ startOf f w k) × (length w ≤ startOf f w (suc k))
     go f p (none-passed z) = absurd (omega (arith, z, l, p))

@@ -1,3 +1,7 @@
 pub mod Ends
 pub mod Area
 pub mod Last
+pub mod Reported
+pub mod Marks
+pub mod Accepting
+pub mod Runs

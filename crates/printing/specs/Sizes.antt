@@ -63,6 +63,7 @@ startOf f w (suc k) = startOf f w k + recordSize f (drop (startOf f w k) w)
 pub record LastRecord (t w : List ℕ) (r : ℕ) : Type 0 where
   pub is : (f : ℕ → Found) → TypesAt f t → 0 < length w → (k : ℕ) × (r ≡ startOf f w k) × (length w ≤ startOf f w (suc k))
   pub within : r ≤ length w
+  pub inside : 0 < length w → r < length w
 
 -- of a page the first words are used; the first r words of mark are a copy of its last record, with which these words end
 pub record Marked (t page : List ℕ) (used : ℕ) (mark : List ℕ) (r : ℕ) : Type 0 where

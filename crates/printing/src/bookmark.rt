@@ -1,5 +1,5 @@
 // The bookmark of the next page: a copy of the last record printed.
-use crate::records::record_end;
+use crate::record_ends::record_end;
 ghost use Prim.Native.Nat.{_≤_};
 ghost use lib.ListN.{length};
 ghost use Rattle.printing.specs.Sizes.{LastRecord, Marked};

@@ -1,10 +1,10 @@
-// The text of a listing, as 01 gives it under 'Examples': filled page by page and written to standard output. Promised is that each
-// bookmark is the last record of the page before; the text itself is tested.
+// The text of a listing, as 01 gives it under 'Examples': filled page by page and written to standard output. Promised is that the pages
+// are those of a host's run, which hold the full listing; the text itself is tested.
 mod bookmark;
 mod lines;
 mod pages;
 mod places;
-mod records;
+mod record_ends;
 mod report;
 mod text;
 mod types;

@@ -37,8 +37,8 @@ fn put_variable(out: &mut Buffer, n: usize, types: &[u16], variable: usize) -> u
 }
 
 // The first line: the variables present, rising, with their types.
-pub fn put_types(out: &mut Buffer, n: usize, types: &[u16; 48]) -> usize {
-    let mut end = put_text(out, n, b"types");
+pub fn put_types(out: &mut Buffer, types: &[u16; 48]) -> usize {
+    let mut end = put_text(out, 0, b"types");
     let mut variable: usize = 0;
     while variable < 8 {
         end = put_variable(out, end, types, variable);

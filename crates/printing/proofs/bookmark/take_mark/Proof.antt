@@ -1,6 +1,5 @@
 -- `printing::bookmark::take_mark` meets its contract. Assumes nothing.
 use Rattle.printing.proofs.Last.{marked}
-use native.Mathlib.Omega.{arith}
 use borrow.Author.Needs.{needs}
 use Rattle.printing.proofs.bookmark.take_mark.Statement.{statement}
 use Rattle.printing.proofs.bookmark.take_mark.Tie as tie

@@ -1,16 +1,15 @@
 -- `printing::lines::put_records` meets its contract. Assumes nothing.
 use lib.ListN.{length}
 use Prim.Native.Nat.{_≤_, _-_}
-use native.Mathlib.Omega.{arith}
 use borrow.Author.Needs.{needs}
 use Rattle.printing.proofs.lines.put_records.Statement.{statement}
 use Rattle.printing.proofs.lines.put_records.Tie as tie
 
 abbrev Inv-loop : tie.InvT-loop
-Inv-loop out₀ n types words end₀ at₀ out end at = at ≤ length words
+Inv-loop out₀ types words end₀ at₀ out end at = at ≤ length words
 
 abbrev μ-loop : tie.MeasureT-loop
-μ-loop out₀ n types words end₀ at₀ out end at = length words - at
+μ-loop out₀ types words end₀ at₀ out end at = length words - at
 
 loop-holds : tie.Need-loop-holds Inv-loop μ-loop
 loop-holds c = search needs

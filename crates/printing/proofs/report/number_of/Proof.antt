@@ -1,58 +1,71 @@
 -- `printing::report::number_of` meets its contract. Assumes nothing.
-use Prim.Native.Nat.{_≤_}
+use Rattle.printing.proofs.Reported.{number-read}
+use native.Mathlib.Omega.{arith}
 use borrow.Author.Needs.{needs}
 use Rattle.printing.proofs.report.number_of.Statement.{statement}
 use Rattle.printing.proofs.report.number_of.Tie as tie
 
-abbrev Inv-loop : tie.InvT-loop
-Inv-loop report which number₀ i₀ number i = (i ≤ 8) × (which ≤ 7)
+mul-at : tie.Need-mul-at
+mul-at c = search needs
 
-abbrev μ-loop : tie.MeasureT-loop
-μ-loop report which number₀ i₀ number i = i
+size-at-requires : tie.Need-size-at-requires
+size-at-requires c κs = search needs
 
-returns : tie.Need-returns Inv-loop μ-loop
-returns c = search needs
+add-size-at : tie.Need-add-size-at
+add-size-at c = search needs
 
-loop-holds : tie.Need-loop-holds Inv-loop μ-loop
-loop-holds c = search needs
+size-at-requires-2 : tie.Need-size-at-requires-2
+size-at-requires-2 c κs = search needs
 
-sub-i : tie.Need-sub-i Inv-loop μ-loop
-sub-i c = search needs
+mul-low : tie.Need-mul-low
+mul-low c = search needs
 
-mul-wide : tie.Need-mul-wide Inv-loop μ-loop
-mul-wide c = search needs
+add-low : tie.Need-add-low
+add-low c = search needs
 
-add-wide : tie.Need-add-wide Inv-loop μ-loop
-add-wide c = search needs
+add-size-at-2 : tie.Need-add-size-at-2
+add-size-at-2 c = search needs
 
-element-copy-out-wide : tie.Need-element-copy-out-wide Inv-loop μ-loop
-element-copy-out-wide c = search needs
+size-at-requires-3 : tie.Need-size-at-requires-3
+size-at-requires-3 c κs = search needs
 
-wide-requires : tie.Need-wide-requires Inv-loop μ-loop
-wide-requires c κs = search needs
+add-size-at-3 : tie.Need-add-size-at-3
+add-size-at-3 c = search needs
 
-loop-less : tie.Need-loop-less Inv-loop μ-loop
-loop-less c = search needs
+size-at-requires-4 : tie.Need-size-at-requires-4
+size-at-requires-4 c κs = search needs
 
-loop-again : tie.Need-loop-again Inv-loop μ-loop
-loop-again c = search needs
+mul-high : tie.Need-mul-high
+mul-high c = search needs
 
-returns-2 : tie.Need-returns-2 Inv-loop μ-loop
-returns-2 c = search needs
+add-high : tie.Need-add-high
+add-high c = search needs
+
+mul-result : tie.Need-mul-result
+mul-result c = search needs
+
+add-result : tie.Need-add-result
+add-result c = search needs
+
+returns : tie.Need-returns
+returns c = search (number-read, arith)
 
 pub number-of-spec : {M : Type 1} → statement M
 number-of-spec =
     tie.close
     (tie.spec
-    Inv-loop
-    μ-loop
-    returns
-    loop-holds
-    sub-i
-    mul-wide
-    add-wide
-    element-copy-out-wide
-    wide-requires
-    loop-less
-    loop-again
-    returns-2)
+    mul-at
+    size-at-requires
+    add-size-at
+    size-at-requires-2
+    mul-low
+    add-low
+    add-size-at-2
+    size-at-requires-3
+    add-size-at-3
+    size-at-requires-4
+    mul-high
+    add-high
+    mul-result
+    add-result
+    returns)

@@ -1,6 +1,5 @@
 -- `printing::types::put_type` meets its contract. Assumes nothing.
 use Prim.Native.Nat.{_≤_, _-_}
-use native.Mathlib.Omega.{arith}
 use borrow.Author.Needs.{needs}
 use Rattle.printing.proofs.types.put_type.Statement.{statement}
 use Rattle.printing.proofs.types.put_type.Tie as tie

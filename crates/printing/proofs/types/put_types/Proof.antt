@@ -1,15 +1,14 @@
 -- `printing::types::put_types` meets its contract. Assumes nothing.
 use Prim.Native.Nat.{_≤_, _-_}
-use native.Mathlib.Omega.{arith}
 use borrow.Author.Needs.{needs}
 use Rattle.printing.proofs.types.put_types.Statement.{statement}
 use Rattle.printing.proofs.types.put_types.Tie as tie
 
 abbrev Inv-loop : tie.InvT-loop
-Inv-loop out₀ n types end₀ variable₀ out end variable = variable ≤ 8
+Inv-loop out₀ types end₀ variable₀ out end variable = variable ≤ 8
 
 abbrev μ-loop : tie.MeasureT-loop
-μ-loop out₀ n types end₀ variable₀ out end variable = 8 - variable
+μ-loop out₀ types end₀ variable₀ out end variable = 8 - variable
 
 slice-aggregate-put-text : tie.Need-slice-aggregate-put-text Inv-loop μ-loop
 slice-aggregate-put-text c = search needs

@@ -1,4 +1,4 @@
--- `printing::records::group_end` and `printing::records::value_end` meet their contracts. Assumes nothing.
+-- `printing::record_ends::group_end` and `printing::record_ends::value_end` meet their contracts. Assumes nothing.
 use Prim.Native.Nat.{_+_, _*_}
 use Rattle.printing.proofs.Ends.{Factors, end-group, end-maybe, end-none, end-nothing, end-one, factors-done, factors-more, factors-past, factors-start}
 use native.Mathlib.Omega.{arith}
@@ -6,17 +6,17 @@ use borrow.Author.Needs.{needs}
 use Prim.Native.Nat.{ℕ, _<_}
 use borrow.Fn.Kinds.{In}
 use borrow.Fn.PlainCycle.{Measures, is, falls, and}
-use Rattle.printing.proofs.records.group_end.Reads as group-end
-use Rattle.printing.proofs.records.group_end.Kinds as group-end-kinds
-use Rattle.printing.proofs.records.+group_end+value_end.Lts-group_end as group-end-lts
-use Rattle.printing.proofs.records.value_end.Reads as value-end
-use Rattle.printing.proofs.records.value_end.Kinds as value-end-kinds
-use Rattle.printing.proofs.records.+group_end+value_end.Lts-value_end as value-end-lts
+use Rattle.printing.proofs.record_ends.group_end.Reads as group-end
+use Rattle.printing.proofs.record_ends.group_end.Kinds as group-end-kinds
+use Rattle.printing.proofs.record_ends.+group_end+value_end.Lts-group_end as group-end-lts
+use Rattle.printing.proofs.record_ends.value_end.Reads as value-end
+use Rattle.printing.proofs.record_ends.value_end.Kinds as value-end-kinds
+use Rattle.printing.proofs.record_ends.+group_end+value_end.Lts-value_end as value-end-lts
 use Rattle.printing.proofs.places.forward.Reads as forward-reads
 use Rattle.printing.proofs.places.word_at.Reads as word-at-reads
-use Rattle.printing.proofs.records.path_end.Reads as path-end-reads
-use Rattle.printing.proofs.records.+group_end+value_end.{statement}
-use Rattle.printing.proofs.records.+group_end+value_end.Tie.{close}
+use Rattle.printing.proofs.record_ends.path_end.Reads as path-end-reads
+use Rattle.printing.proofs.record_ends.+group_end+value_end.{statement}
+use Rattle.printing.proofs.record_ends.+group_end+value_end.Tie.{close}
 
 abbrev μ-group-end : Measures 2 group-end-kinds.ps ℕ
 μ-group-end κs a = 2 * (a .0) + 1

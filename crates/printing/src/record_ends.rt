@@ -1,6 +1,7 @@
 // Where a record ends, by the types of the variables. It is a question about any words whatever.
 use crate::places::forward;
 use crate::places::word_at;
+use records::Record;
 ghost use Prim.Native.Nat.{_+_, _<_, _≤_};
 ghost use lib.ListN.{length};
 ghost use Rattle.printing.specs.Sizes.{GroupEnd, PathEnd, RecordEnd, ValueEnd, VariableEnd};
@@ -22,7 +23,7 @@ fn value_end(left: usize, types: &[u16], kind: usize, words: &[u16], at: usize) 
     }
     match word_at(types, kind) {
         3 => {
-            if word_at(words, at) == 65535 {
+            if word_at(words, at) == Record::NOTHING {
                 return forward(words, at, 1);
             }
             value_end(left - 1, types, kind + 1, words, at)

@@ -1,9 +1,9 @@
--- `printing::records::path_end` meets its contract. Assumes nothing.
+-- `printing::record_ends::path_end` meets its contract. Assumes nothing.
 use Rattle.printing.proofs.Ends.{path-end}
 use native.Mathlib.Omega.{arith}
 use borrow.Author.Needs.{needs}
-use Rattle.printing.proofs.records.path_end.Statement.{statement}
-use Rattle.printing.proofs.records.path_end.Tie as tie
+use Rattle.printing.proofs.record_ends.path_end.Statement.{statement}
+use Rattle.printing.proofs.record_ends.path_end.Tie as tie
 
 word-at-requires : tie.Need-word-at-requires
 word-at-requires c κs = search needs

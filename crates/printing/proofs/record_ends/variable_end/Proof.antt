@@ -1,9 +1,9 @@
--- `printing::records::variable_end` meets its contract. Assumes nothing.
+-- `printing::record_ends::variable_end` meets its contract. Assumes nothing.
 use Rattle.printing.proofs.Ends.{variable-none, variable-value}
 use native.Mathlib.Omega.{arith}
 use borrow.Author.Needs.{needs}
-use Rattle.printing.proofs.records.variable_end.Statement.{statement}
-use Rattle.printing.proofs.records.variable_end.Tie as tie
+use Rattle.printing.proofs.record_ends.variable_end.Statement.{statement}
+use Rattle.printing.proofs.record_ends.variable_end.Tie as tie
 
 mul-word-at : tie.Need-mul-word-at
 mul-word-at c = search needs

@@ -1,10 +1,10 @@
--- `printing::records::record_end` meets its contract. Assumes nothing.
+-- `printing::record_ends::record_end` meets its contract. Assumes nothing.
 use Prim.Native.Nat.{_-_}
 use Rattle.printing.proofs.Ends.{Variables, variables-done, variables-more, variables-start}
 use native.Mathlib.Omega.{arith}
 use borrow.Author.Needs.{needs}
-use Rattle.printing.proofs.records.record_end.Statement.{statement}
-use Rattle.printing.proofs.records.record_end.Tie as tie
+use Rattle.printing.proofs.record_ends.record_end.Statement.{statement}
+use Rattle.printing.proofs.record_ends.record_end.Tie as tie
 
 abbrev Inv-loop : tie.InvT-loop
 Inv-loop types words at end₀ variable₀ end variable = Variables types words at variable end
