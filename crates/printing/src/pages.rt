@@ -75,7 +75,8 @@ fn print_page(out: &mut Buffer, types: &[u16; 48], page: &Words, report: &Report
 }
 
 // Prints the first page, which is filled already, and the pages after it, each before the next is looked for; and gives the count
-// of their records. Each page but the last has a record, so there is a last one.
+// of their records. The loop keeps `Shown`: what is printed is the last page of a host's run. Each page but the last has a record, so
+// there is a last one.
 fn print_pages(
     out: &mut Buffer,
     image: &[u8],
