@@ -36,7 +36,7 @@ unfolding opened printedRecords
 reported-count a b c d e f rest h = digits-read 8 c h
 
 -- ------------------------------------------------------------------ no more records than words
-fit-words : (n : ℕ) (l : List Record) → length (join (fit n l)) ≤ n
+pub fit-words : (n : ℕ) (l : List Record) → length (join (fit n l)) ≤ n
 unfolding opened printedRecords
 fit-words n [] = omega arith
 fit-words n (r ∷ l) = go (leb (length r) n) refl (fit-words (n - length r) l)

@@ -39,7 +39,7 @@ unfolding opened printedRecords
 after-mid [] b ys h = rw (is-false (before b b) (before-irrefl b)) (keep-all b ys (h .0))
 after-mid (x ∷ xs) b ys h = rw (is-false (before b x) (λ k. before-irrefl x (before-trans x b x (all-mid x xs b ys (h .0)) k))) (after-mid xs b ys (h .1))
 
-lastOr-snoc : (b : Record) (xs : List Record) → (xs ≡ []) ⊎ ((ys : List Record) × (xs ≡ ys ++ (lastOr b xs ∷ [])))
+pub lastOr-snoc : (b : Record) (xs : List Record) → (xs ≡ []) ⊎ ((ys : List Record) × (xs ≡ ys ++ (lastOr b xs ∷ [])))
 unfolding opened printedRecords
 lastOr-snoc b [] = inl refl
 lastOr-snoc b (x ∷ xs) = inr (go (lastOr-snoc x xs))
@@ -48,7 +48,7 @@ lastOr-snoc b (x ∷ xs) = inr (go (lastOr-snoc x xs))
     go (inl e) = ([], rw e refl)
     go (inr p) = (x ∷ p .0, ap (λ (t : List Record). x ∷ t) (p .1))
 
-lastOr-append : (b : Record) (xs ys : List Record) → lastOr b (xs ++ ys) ≡ lastOr (lastOr b xs) ys
+pub lastOr-append : (b : Record) (xs ys : List Record) → lastOr b (xs ++ ys) ≡ lastOr (lastOr b xs) ys
 unfolding opened printedRecords
 lastOr-append b [] ys = refl
 lastOr-append b (x ∷ xs) ys = lastOr-append x xs ys

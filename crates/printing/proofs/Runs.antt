@@ -5,16 +5,16 @@ use mathlib.Core.Bool.{Bool, false, true}
 use mathlib.Core.Option.{none}
 use Prim.Native.Nat.{_%_, _+_, _-_, _<_, _^_, _≤_, suc, ℕ}
 use native.Mathlib.Omega.{arith}
-use lib.Dec.{leb}
 use lib.ListN.{drop, length, length-append, length-replicate, replicate, take}
 use lib.Seq.{drop-nil}
-use borrow.Author.Tests.{le-leb, le-ltb, leb-true}
-use Rattle.meaning.proofs.Calls.{after-seam, all-left, all-right}
+use borrow.Author.Tests.{le-leb, le-ltb}
+use Rattle.meaning.proofs.Bytes.{fit-words}
+use Rattle.meaning.proofs.Calls.{after-seam, all-left, all-right, lastOr-append, lastOr-snoc}
 use Rattle.meaning.proofs.Granted.{full-not-empty, full-readable, full-sorted, no-longer}
-use Rattle.meaning.proofs.Logic.{all-of}
+use Rattle.meaning.proofs.Logic.{all-of, either}
 use Rattle.meaning.proofs.Pages.{outcome-begins, printedRecords}
 use Rattle.meaning.proofs.Reading.{Readable, records-read}
-use Rattle.meaning.specs.Basics.{All, each, firstOf, if_then_else_, rowless}
+use Rattle.meaning.specs.Basics.{All, each, firstOf, rowless}
 use Rattle.meaning.specs.FullListing.{fixedFault, fullListing}
 use Rattle.meaning.specs.Listing.{Before, Sorted}
 use Rattle.meaning.specs.Machine.{fillPage, hostCalls, lastOr, shownRecords}
@@ -41,26 +41,14 @@ all-snoc : (P : Lent → Type 0) (xs : List Lent) (x : Lent) → All P xs → P 
 all-snoc P [] x h k = (k, tt)
 all-snoc P (y ∷ xs) x h k = (h .0, all-snoc P xs x (h .1) k)
 
-last-append : (b : Record) (xs ys : List Record) → lastOr b (xs ++ ys) ≡ lastOr (lastOr b xs) ys
-unfolding lastOr
-last-append b [] ys = refl
-last-append b (x ∷ xs) ys = last-append x xs ys
-
 -- of some records the last does not depend on what went before
 last-of : (a b : Record) (xs : List Record) → (xs ≡ [] → ⊥) → lastOr a xs ≡ lastOr b xs
 unfolding lastOr
 last-of a b [] h = absurd (h refl)
 last-of a b (x ∷ xs) h = refl
 
-last-snoc : (r : Record) (l : List Record) → (ys : List Record) × (r ∷ l ≡ ys ++ (lastOr r l ∷ []))
-unfolding lastOr
-last-snoc r [] = ([], refl)
-last-snoc r (x ∷ l) = let p = last-snoc x l in (r ∷ p .0, ap (λ (t : List Record). r ∷ t) (p .1))
-
 some-snoc : (b : Record) (xs : List Record) → (xs ≡ [] → ⊥) → (ys : List Record) × (xs ≡ ys ++ (lastOr b xs ∷ []))
-unfolding lastOr
-some-snoc b [] h = absurd (h refl)
-some-snoc b (x ∷ xs) h = last-snoc x xs
+some-snoc b xs h = either (lastOr-snoc b xs) (λ e. absurd (h e)) (λ p. p)
 
 empty-is : (l : List Record) → bit (isEmpty l) ≡ 0 → l ≡ [] → ⊥
 unfolding bit isEmpty
@@ -76,16 +64,6 @@ small-bit : (b : Bool) → bit b ≤ 1
 unfolding bit
 small-bit true = omega arith
 small-bit false = omega arith
-
--- ------------------------------------------------------------------ a page of m words on which the first record fits
-fit-words : (m : ℕ) (l : List Record) → length (join (fit m l)) ≤ m
-unfolding join fit
-fit-words m [] = omega arith
-fit-words m (r ∷ l) = go (leb (length r) m) refl (fit-words (m - length r) l)
-  where
-    go : (b : Bool) → leb (length r) m ≡ b → length (join (fit (m - length r) l)) ≤ m - length r → length (join (if b then r ∷ fit (m - length r) l else [])) ≤ m
-    go true e ih = let h : length r ≤ m = leb-true (length r) m e in omega (arith, ih, h, length-append r (join (fit (m - length r) l)))
-    go false e ih = omega arith
 
 fit-some : (m : ℕ) (rest : List Record) → All (λ r. length r ≤ m) rest → fit m rest ≡ [] → rest ≡ []
 fit-some m [] h e = refl
@@ -111,7 +89,7 @@ module _ (image pattern : List ℕ) (n : ℕ) where
       let l : Left = fillPage image pattern n b d .left in
       let a : Record = lastOr b (shownRecords f l) in
       let later : List Record = each (hostCalls image pattern n a cs) (shownRecords f) in
-      ap (λ (x : List Left). l ∷ x) (run-snoc cs c a ∙ ap (λ (m : Record). hostCalls image pattern n a cs ++ (fillPageLeft image pattern n m c ∷ [])) (sym (last-append b (shownRecords f l) later)))
+      ap (λ (x : List Left). l ∷ x) (run-snoc cs c a ∙ ap (λ (m : Record). hostCalls image pattern n a cs ++ (fillPageLeft image pattern n m c ∷ [])) (sym (lastOr-append b (shownRecords f l) later)))
 
   -- ------------------------------------------------------------------ what a call leaves that nothing refuses
   module _ (ok : fixedFault image pattern n ≡ none) where
@@ -233,7 +211,7 @@ module _ (image pattern : List ℕ) (n : ℕ) where
     shown-used = omega (arith, used-here, s .fits)
 
     last-here : (s .here ≡ [] → ⊥) → lastOr [] (s .here) ≡ lastOr [] (s .before ++ s .here)
-    last-here h = last-of [] (lastOr [] (s .before)) (s .here) h ∙ sym (last-append [] (s .before) (s .here))
+    last-here h = last-of [] (lastOr [] (s .before)) (s .here) h ∙ sym (lastOr-append [] (s .before) (s .here))
 
     come-is : (s .here ≡ [] → ⊥) → toCome page report ≡ length (s .rest)
     unfolding toCome
