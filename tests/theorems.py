@@ -3,7 +3,8 @@
 Each quoted block of docs/THEOREMS.md follows a line "`NAME`, proofs/FILE.antt:" (of crates/meaning) or "`NAME`,
 crates/CRATE/proofs/FILE.antt:" and must be the signature of a public NAME in that file. Each block of Rust must stand in the source
 file named in the paragraph before it. Wherever a document says "`NAME` (specs/FILE.antt)" or "(`NAME`, proofs/FILE.antt)", with one name
-or several, a file of that name in some crate has them.
+or several, a file of that name in some crate has them; and "`NAME` (CRATE/src/FILE.rt)", or a row of a table that says so, names what the
+source declares.
 """
 
 import glob
@@ -42,6 +43,8 @@ def placed(document):
             # constructors stand beside their type and are not public by themselves
             there = there or any(re.search(r"(?m)^  (?:\S+ )*" + re.escape(name) + r"(?: \S+)* : ", source) for source in sources)
             yield f"{document}: no {name} in {file}", there
+    for name, file in re.findall(r"(?m)^\| `(\w+)` \| (\w+/src/\w+\.rt) \|", doc) + re.findall(r"`(\w+)` \((?:crates/)?(\w+/src/\w+\.rt)\)", doc):
+        yield f"{document}: no {name} in {file}", bool(re.search(r"\b(fn|struct|enum|const) " + name + r"\b", read("crates/" + file)))
 
 
 def main():
