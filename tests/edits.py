@@ -41,6 +41,16 @@ def slips(name, path):
             yield f"{name}: {file} has no {word}"
 
 
+def unknown():
+    """What docs/EDITS.md says refuses an edit and is not in the crates."""
+    sources = glob.glob(os.path.join(ROOT, "crates", "**", "*.rt"), recursive=True) + glob.glob(os.path.join(ROOT, "crates", "**", "*.antt"), recursive=True)
+    known = set(WORD.findall("\n".join(open(path).read() for path in sources)))
+    for row in re.findall(r"(?m)^\| `.*\|$", open(os.path.join(ROOT, "docs/EDITS.md")).read()):
+        for name in re.findall(r"`([\w-]+)`", row):
+            if name not in known:
+                yield f"docs/EDITS.md: nothing is called {name}"
+
+
 def main():
     there = dict(edits())
     crates = set(os.listdir(os.path.join(ROOT, "crates")))
@@ -48,7 +58,7 @@ def main():
     listed = {name for document, name in names if document == "docs/EDITS.md"}
     bad = [f"{document} names an edit that is not there: {name}" for document, name in names if name not in there]
     bad += [f"docs/EDITS.md does not name {name}" for name in there if name not in listed]
-    bad += [line for name, path in there.items() for line in slips(name, path)]
+    bad += [line for name, path in there.items() for line in slips(name, path)] + list(unknown())
     for line in bad:
         print(line)
     print(f"{len(there) + len(names) - len(bad)} passed, {len(bad)} failed")
