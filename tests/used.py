@@ -159,7 +159,7 @@ def unused_rattle():
 
 def main():
     document = open(os.path.join(ROOT, "docs/THEOREMS.md")).read()
-    quoted = set(re.findall(r"(?m)`(\S+)`", document))
+    quoted = set(re.findall(r"(?m)^`([^`]+)`, \S+\.antt:$", document))
     found = list(unused_antt(quoted)) + list(unused_rattle())
     for line in found:
         print(line)
