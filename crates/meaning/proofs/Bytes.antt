@@ -31,7 +31,7 @@ digits-read (suc n) x h =
     omega (arith, digits-read n (x / 256) k)
 
 -- number 2 of a report over a lent area
-reported-count : (a b c d e f : ℕ) (rest : List ℕ) → c < 256 ^ 8 → reported 2 (reportBytes a b c d e f ++ rest) ≡ c
+pub reported-count : (a b c d e f : ℕ) (rest : List ℕ) → c < 256 ^ 8 → reported 2 (reportBytes a b c d e f ++ rest) ≡ c
 unfolding opened printedRecords
 reported-count a b c d e f rest h = digits-read 8 c h
 
@@ -50,7 +50,7 @@ unfolding opened printedRecords
 one-word [] h = no-false h
 one-word (x ∷ r) h = omega arith
 
-count-words : (l : List Record) → All (Before []) l → length l ≤ length (join l)
+pub count-words : (l : List Record) → All (Before []) l → length l ≤ length (join l)
 unfolding opened printedRecords
 count-words [] h = omega arith
 count-words (r ∷ l) h = omega (arith, one-word r (h .0), count-words l (h .1), length-append r (join l))
@@ -58,7 +58,7 @@ count-words (r ∷ l) h = omega (arith, one-word r (h .0), count-words l (h .1),
 abbrev Few : ℕ → Outcome → Type 0
 Few n o = length (join (printedRecords o)) ≤ n
 
-outcome-words : (fault : Cause) (c : Lent) (rest : List Record) → length (join (printedRecords (outcome fault c rest))) ≤ length (c .page)
+pub outcome-words : (fault : Cause) (c : Lent) (rest : List Record) → length (join (printedRecords (outcome fault c rest))) ≤ length (c .page)
 unfolding opened printedRecords
 outcome-words fault c rest = go (wideEnough (c .report))
   where

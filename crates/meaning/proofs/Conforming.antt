@@ -90,7 +90,7 @@ module _ (n m k : ℕ) where
   union-right (typed τ) clash o b h h₂ c = tt
   union-right (typed τ) (typed σ) o b h h₂ (v, q, a) = rw q (meet-right τ σ (Ty-discrete τ σ) (Ty-discrete σ (Maybe τ)) (Ty-discrete τ (Maybe σ)) v a)
 
-  concatenation-conf : (f g : Found) (o o′ : Option Value) → Conforms n m k f o → Conforms n m k g o′ → Conforms n m k (concatenationTy f g) (orElse o o′)
+  pub concatenation-conf : (f g : Found) (o o′ : Option Value) → Conforms n m k f o → Conforms n m k g o′ → Conforms n m k (concatenationTy f g) (orElse o o′)
   unfolding opened
   concatenation-conf absent g o o′ c c′ = rw c c′
   concatenation-conf clash g o o′ c c′ = tt

@@ -17,7 +17,7 @@ use Rattle.meaning.specs.Listing.{Listed, before}
 use Rattle.meaning.specs.Record.{Record}
 use Rattle.meaning.specs.Table.{patternOf}
 
-one-of→ : (r : Record) (l : List Record) → isOneOf r l ≡ true → r ∈ l
+pub one-of→ : (r : Record) (l : List Record) → isOneOf r l ≡ true → r ∈ l
 unfolding opened
 one-of→ r [] e = no-false e
 one-of→ r (s ∷ l) e = either (or-cases (not (before r s) && not (before s r)) (isOneOf r l) e)
@@ -28,7 +28,7 @@ neither : (r : Record) → (not (before r r) && not (before r r)) ≡ true
 unfolding opened
 neither r = ap (λ (b : Bool). not b && not b) (is-false (before r r) (before-irrefl r))
 
-one-of← : (r : Record) {l : List Record} → r ∈ l → isOneOf r l ≡ true
+pub one-of← : (r : Record) {l : List Record} → r ∈ l → isOneOf r l ≡ true
 unfolding opened
 one-of← r (List·Memᴰ·head {x = s} {xs = l} e) = or-l (not (before r s) && not (before s r)) (isOneOf r l) (rw e (neither s))
 one-of← r (List·Memᴰ·tail {x = s} {xs = l} m) = or-r (not (before r s) && not (before s r)) (isOneOf r l) (one-of← r m)

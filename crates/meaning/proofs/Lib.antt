@@ -43,3 +43,13 @@ pub mod Bytes
 pub mod Judged
 pub mod AnyAssignment
 pub mod After
+pub mod QueryOpened
+pub mod QueryTypes
+pub mod QueryAnswers
+pub mod QueryExamples
+pub mod QueryReading
+pub mod QuerySize
+pub mod QueryGranted
+pub mod QueryCalls
+pub mod OnePart
+pub mod QueryTold

@@ -21,7 +21,7 @@ use Rattle.meaning.specs.Page.{join}
 use Rattle.meaning.specs.Record.{Record, elementWord, entriesWords, groupSize, pathSize, pathWords, recordOf, recordSize, recordsIn, slotSize, slotWords, valueSize, valueWords, variableWords, variablesSize}
 use Rattle.meaning.specs.Typing.{Edge, Found, Group, Maybe, Node, Ty, absent, clash, typed}
 
-path-size : (p : Walk) (s : List ℕ) → pathSize (pathWords p ++ s) ≡ length (pathWords p)
+pub path-size : (p : Walk) (s : List ℕ) → pathSize (pathWords p ++ s) ≡ length (pathWords p)
 unfolding opened
 path-size p s = omega (arith, length-places p)
 
@@ -33,7 +33,7 @@ first-word nothing s = (65535, s, refl)
 first-word (group g) s = (count g, entriesWords g ++ s, refl)
 
 module _ (n m k : ℕ) (hn : n < 65535) (hm : m < 65535) (hk : k < 65535) where
-  abbrev Sized : Ty → Type 0
+  abbrev pub Sized : Ty → Type 0
   Sized τ = (v : Value) (s : List ℕ) → Of n m k τ v → valueSize τ (valueWords v ++ s) ≡ length (valueWords v)
 
   group-size : (τ : Ty) → Sized τ → (g : Entries) (s : List ℕ) → AllOf (Of n m k τ) g → groupSize (valueSize τ) (count g) (entriesWords g ++ s) ≡ length (entriesWords g)
@@ -53,7 +53,7 @@ module _ (n m k : ℕ) (hn : n < 65535) (hm : m < 65535) (hk : k < 65535) where
       let rowless : length (pathWords p ++ (valueWords v ++ e)) ≡ length (pathWords p) + (length (valueWords v) + length e) = length-append (pathWords p) (valueWords v ++ e) ∙ ap (λ (x : ℕ). length (pathWords p) + x) (length-append (valueWords v) e) in
       ap (groupSize (valueSize τ) (suc (count g))) is ∙ omega (arith, q, ih, rowless)
 
-  value-size : (τ : Ty) → Sized τ
+  pub value-size : (τ : Ty) → Sized τ
   unfolding opened
   value-size Node v s (u, h, q) = rw q refl
   value-size Edge v s (u, h, q) = rw q refl

@@ -86,7 +86,7 @@ length-padded (a ∷ b ∷ c ∷ d ∷ []) = refl
 length-padded (a ∷ b ∷ c ∷ d ∷ e ∷ []) = refl
 length-padded (a ∷ b ∷ c ∷ d ∷ e ∷ f ∷ l) = refl
 
-padded-is : (l : List ℕ) → length l ≤ 6 → padded l ≡ l ++ replicate (6 - length l) 0
+pub padded-is : (l : List ℕ) → length l ≤ 6 → padded l ≡ l ++ replicate (6 - length l) 0
 unfolding opened
 padded-is [] h = refl
 padded-is (a ∷ []) h = refl
@@ -101,7 +101,7 @@ padded-is (a ∷ b ∷ c ∷ d ∷ e ∷ f ∷ g ∷ l) h = absurd (omega arith)
 unfoldable pub typeSlot : List ℕ → ℕ → List ℕ
 typeSlot w x = take 6 (drop (6 * (x - 1)) w)
 
-block : (f : ℕ → List ℕ) → ((x : ℕ) → length (f x) ≡ 6) → (n i k : ℕ) → k < n → take 6 (drop (6 * k) (each (upFrom n i) f)) ≡ f (i + k)
+pub block : (f : ℕ → List ℕ) → ((x : ℕ) → length (f x) ≡ 6) → (n i k : ℕ) → k < n → take 6 (drop (6 * k) (each (upFrom n i) f)) ≡ f (i + k)
 unfolding opened
 block f h zero i k l = absurd (omega arith)
 block f h (suc n) i zero l = take-front 6 (f i) (each (upFrom n (suc i)) f) (h i) ∙ (let e : i ≡ i + 0 = omega arith in ap f e)

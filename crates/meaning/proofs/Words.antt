@@ -33,7 +33,7 @@ places-part (step u f p) (step v g q) s t l e =
     let c : p ≡ q = h .0 in
     ((cc), h .1)
 
-path-part : (p q : Walk) (s t : List ℕ) → pathWords p ++ s ≡ pathWords q ++ t → (p ≡ q) × (s ≡ t)
+pub path-part : (p q : Walk) (s t : List ℕ) → pathWords p ++ s ≡ pathWords q ++ t → (p ≡ q) × (s ≡ t)
 unfolding opened
 path-part p q s t e = places-part p q s t (cons-head e) (cons-tail e)
 
@@ -51,7 +51,7 @@ module _ (n m k : ℕ) (hn : n < 65535) (hm : m < 65535) (hk : k < 65535) where
   only-nothing (Maybe τ) w s t (inr o) e = only-nothing τ w s t o e
   only-nothing (Group τ) w s t (g, h, a, q) e = let z : 65535 ≡ count g = cons-head (starts w (group g) t q e) in absurd (omega arith)
 
-  abbrev Parts : Ty → Type 0
+  abbrev pub Parts : Ty → Type 0
   Parts τ = (v w : Value) (s t : List ℕ) → Of n m k τ v → Of n m k τ w → valueWords v ++ s ≡ valueWords w ++ t → (v ≡ w) × (s ≡ t)
 
   entries-part : (τ : Ty) → Parts τ → (g h : Entries) (s t : List ℕ) → AllOf (Of n m k τ) g → AllOf (Of n m k τ) h → count g ≡ count h → entriesWords g ++ s ≡ entriesWords h ++ t → (g ≡ h) × (s ≡ t)
@@ -69,7 +69,7 @@ module _ (n m k : ℕ) (hn : n < 65535) (hm : m < 65535) (hk : k < 65535) where
       let zp : g ≡ h = z .0 in
       ((cc), z .1)
 
-  parts : (τ : Ty) → Parts τ
+  pub parts : (τ : Ty) → Parts τ
   unfolding opened
   parts Node v w s t (u, h, q) (u′, h′, q′) e =
       let z = starts w (one (theNode u′)) t q′ (sym (ap (λ (x : Value). valueWords x ++ s) q) ∙ e) in

@@ -41,11 +41,11 @@ unfoldable pub bind : Option ℕ → Value → Assignment
 bind none v x = none
 bind (some y) v x = if eqb y x then some v else none
 
--- μ and ν unify; and their unification
-abbrev pub Unify : Assignment → Assignment → Type 0
-Unify μ ν = (x : ℕ) (v w : Value) → μ x ≡ some v → ν x ≡ some w → v ≡ w
+-- μ and ν unify; and their unification (A: the values of a pattern's variables, or of a query's)
+abbrev pub Unify : {A : Type 0} → (ℕ → Option A) → (ℕ → Option A) → Type 0
+Unify {A} μ ν = (x : ℕ) (v w : A) → μ x ≡ some v → ν x ≡ some w → v ≡ w
 
-unfoldable pub _∪_ : Assignment → Assignment → Assignment
+unfoldable pub _∪_ : {A : Type 0} → (ℕ → Option A) → (ℕ → Option A) → ℕ → Option A
 _∪_ μ ν x = orElse (μ x) (ν x)
 
 -- Nothing for each variable of π that μ does not bind

@@ -14,3 +14,8 @@ pub mod Report
 pub mod Page
 pub mod Machine
 pub mod Operations
+pub mod Query
+pub mod Joins
+pub mod QueryRecord
+pub mod QueryWords
+pub mod QueryListing
