@@ -143,16 +143,16 @@ module _ (F : Fixed) (proper : Proper F) where
   demand-3-bytes-of calls h = calls-are calls h [] ∙ ap (map (λ t. t .left)) (demand-3-of calls)
 
 -- ------------------------------------------------------------------ every image and query
-pub fixed-proper : (image words : List ℕ) → Proper (fixedBy image words)
+pub fixed-proper : (image query : List ℕ) → Proper (fixedBy image query)
 unfolding query-opened
-fixed-proper image words = record { sorted = query-full-sorted image words; not-empty = query-full-not-empty image words; readable = query-full-readable image words }
+fixed-proper image query = record { sorted = query-full-sorted image query; not-empty = query-full-not-empty image query; readable = query-full-readable image query }
 
-pub query-demand-3 : (image words : List ℕ) (calls : List Lent) → hostOf (fixedBy image words) [] calls ≡ machineOf (fixedBy image words) calls
-query-demand-3 image words = demand-3-of (fixedBy image words) (fixed-proper image words)
+pub query-demand-3 : (image query : List ℕ) (calls : List Lent) → hostOf (fixedBy image query) [] calls ≡ machineOf (fixedBy image query) calls
+query-demand-3 image query = demand-3-of (fixedBy image query) (fixed-proper image query)
 
-pub query-demand-3-bytes : (image words : List ℕ) (calls : List Lent) → All (λ c. length (c .page) < 256 ^ 8) calls → hostCallsOf (fixedBy image words) [] calls ≡ map (λ t. t .left) (machineOf (fixedBy image words) calls)
-query-demand-3-bytes image words = demand-3-bytes-of (fixedBy image words) (fixed-proper image words)
+pub query-demand-3-bytes : (image query : List ℕ) (calls : List Lent) → All (λ c. length (c .page) < 256 ^ 8) calls → hostCallsOf (fixedBy image query) [] calls ≡ map (λ t. t .left) (machineOf (fixedBy image query) calls)
+query-demand-3-bytes image query = demand-3-bytes-of (fixedBy image query) (fixed-proper image query)
 
-pub query-pages-complete : (image words : List ℕ) (calls : List Lent) (l : List Record) → untilDone (fixedBy image words) (hostOf (fixedBy image words) [] calls) ≡ some l → l ≡ queryFullListing image words
+pub query-pages-complete : (image query : List ℕ) (calls : List Lent) (l : List Record) → untilDone (fixedBy image query) (hostOf (fixedBy image query) [] calls) ≡ some l → l ≡ queryFullListing image query
 unfolding query-opened
-query-pages-complete image words calls l h = pages-complete-of (fixedBy image words) (fixed-proper image words) calls l h
+query-pages-complete image query calls l h = pages-complete-of (fixedBy image query) (fixed-proper image query) calls l h

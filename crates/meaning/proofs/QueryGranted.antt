@@ -38,12 +38,12 @@ use Rattle.meaning.specs.Table.{anyOf, isClash, isVariable, patternFault
 use Rattle.meaning.specs.Typing.{Found, absent, clash, typed}
 
 -- the image and the query of a listing that nothing fixed refuses
-pub record QueryGranted (image words : List ℕ) : Type 0 where
+pub record QueryGranted (image query : List ℕ) : Type 0 where
   pub read : Read image
-  pub some-part : 1 ≤ width (queryIn words)
-  pub few-parts : width (queryIn words) ≤ 4
-  pub accepted : QueryAccepted (queryIn words)
-  pub no-clash : (x : ℕ) → queryTypeOf (queryIn words) x ≢ element clash
+  pub some-part : 1 ≤ width (queryIn query)
+  pub few-parts : width (queryIn query) ≤ 4
+  pub accepted : QueryAccepted (queryIn query)
+  pub no-clash : (x : ℕ) → queryTypeOf (queryIn query) x ≢ element clash
 
 -- ------------------------------------------------------------------ how many parts
 length-parts : (n : ℕ) (heads patterns : List ℕ) → length (partsFrom n heads patterns) ≡ n
@@ -136,33 +136,33 @@ query-no-clash Q ok u x q = go (inQuery Q x) refl
     go false e = absent-clash (element-inj (sym (query-unused→absent Q x e) ∙ q))
 
 -- what the checks of a query grant
-pub query-checked : (words : List ℕ) → queryFault words ≡ none → (1 ≤ width (queryIn words)) × (width (queryIn words) ≤ 4) × QueryAccepted (queryIn words) × ((x : ℕ) → queryTypeOf (queryIn words) x ≢ element clash)
+pub query-checked : (query : List ℕ) → queryFault query ≡ none → (1 ≤ width (queryIn query)) × (width (queryIn query) ≤ 4) × QueryAccepted (queryIn query) × ((x : ℕ) → queryTypeOf (queryIn query) x ≢ element clash)
 unfolding query-opened
-query-checked words e =
-    let l : List Part = partsOf words in
+query-checked query e =
+    let l : List Part = partsOf query in
     let last : Cause = rowless 33 (queryUntyped (queryOf l)) in
-    let a = first-none (rowless 31 (badLayout words)) (firstOf (rowless 32 (badNames l)) (firstOf (partsFault l) last)) e in
+    let a = first-none (rowless 31 (badLayout query)) (firstOf (rowless 32 (badNames l)) (firstOf (partsFault l) last)) e in
     let b = first-none (rowless 32 (badNames l)) (firstOf (partsFault l) last) (a .1) in
     let c = first-none (partsFault l) last (b .1) in
-    let n = layout-parts words (whole-none 31 (badLayout words) (a .0)) in
+    let n = layout-parts query (whole-none 31 (badLayout query) (a .0)) in
     let ok : QueryAccepted (queryOf l) = parts-accepted l (n .0) (whole-none 32 (badNames l) (b .0)) (c .0) in
     (omega (arith, width-is l (n .0), n .0), omega (arith, width-is l (n .0), n .1), ok, query-no-clash (queryOf l) ok (whole-none 33 (queryUntyped (queryOf l)) (c .1)))
 
-pub query-granted : (image words : List ℕ) → queryFixedFault image words ≡ none → QueryGranted image words
+pub query-granted : (image query : List ℕ) → queryFixedFault image query ≡ none → QueryGranted image query
 unfolding query-opened
-query-granted image words e =
-    let last : Cause = rowless 21 (badRestrictor (partsOf words)) in
-    let i = first-none (imageFault image) (firstOf (queryFault words) last) e in
-    let q = query-checked words (first-none (queryFault words) last (i .1) .0) in
+query-granted image query e =
+    let last : Cause = rowless 21 (badRestrictor (partsOf query)) in
+    let i = first-none (imageFault image) (firstOf (queryFault query) last) e in
+    let q = query-checked query (first-none (queryFault query) last (i .1) .0) in
     record { read = image-read image (i .0); some-part = q .0; few-parts = q .1; accepted = q .2; no-clash = q .3 }
 
 -- ------------------------------------------------------------------ what nothing fixed refuses
-module _ (image words : List ℕ) (g : QueryGranted image words) where
+module _ (image query : List ℕ) (g : QueryGranted image query) where
   abbrev G : Graph
   G = graphOf image
 
   abbrev Q : Query
-  Q = queryIn words
+  Q = queryIn query
 
   few-nodes : graphOf image .nodes ≤ 200
   unfolding query-opened
@@ -177,29 +177,29 @@ module _ (image words : List ℕ) (g : QueryGranted image words) where
   longest-few trail = few-edges
   longest-few simple = few-nodes
 
-  pub answer-few : (ps : List Walk) (μ : QueryAssignment) → QueryMeaning (graphOf image) (queryIn words) ps μ → PathsFew 200 ps
+  pub answer-few : (ps : List Walk) (μ : QueryAssignment) → QueryMeaning (graphOf image) (queryIn query) ps μ → PathsFew 200 ps
   answer-few = paths-few G (g .read .valid) 200 longest-few Q
 
-  pub granted-members : (r : Record) → (r ∈ queryListing (graphOf image) (queryIn words)) ↔ QueryListed (graphOf image) (queryIn words) r
+  pub granted-members : (r : Record) → (r ∈ queryListing (graphOf image) (queryIn query)) ↔ QueryListed (graphOf image) (queryIn query) r
   granted-members = query-listing-iff G (g .read .valid) Q (accepted-sound Q (g .accepted))
 
-  pub granted-short : (ps : List Walk) (μ : QueryAssignment) → QueryMeaning (graphOf image) (queryIn words) ps μ → length (queryRecordOf ps μ) ≤ 19224
+  pub granted-short : (ps : List Walk) (μ : QueryAssignment) → QueryMeaning (graphOf image) (queryIn query) ps μ → length (queryRecordOf ps μ) ≤ 19224
   granted-short ps μ h = query-size G (g .read .valid) Q (g .accepted) (g .few-parts) ps μ h (answer-few ps μ h)
 
-  pub granted-part : (ps qs : List Walk) (μ ν : QueryAssignment) → QueryMeaning (graphOf image) (queryIn words) ps μ → QueryMeaning (graphOf image) (queryIn words) qs ν → (s t : List ℕ) → queryRecordOf ps μ ++ s ≡ queryRecordOf qs ν ++ t → (ps ≡ qs) × All (λ x. μ x ≡ ν x) twelve × (s ≡ t)
+  pub granted-part : (ps qs : List Walk) (μ ν : QueryAssignment) → QueryMeaning (graphOf image) (queryIn query) ps μ → QueryMeaning (graphOf image) (queryIn query) qs ν → (s t : List ℕ) → queryRecordOf ps μ ++ s ≡ queryRecordOf qs ν ++ t → (ps ≡ qs) × All (λ x. μ x ≡ ν x) twelve × (s ≡ t)
   granted-part ps qs μ ν h j = query-part G (g .read .valid) Q (accepted-sound Q (g .accepted)) (g .no-clash) 200 (omega (arith, few-nodes)) (omega (arith, few-edges)) (omega arith) ps qs μ ν h j (answer-few ps μ h) (answer-few qs ν j)
 
-  pub granted-readable : (ps : List Walk) (μ : QueryAssignment) → QueryMeaning (graphOf image) (queryIn words) ps μ → ReadBy (queryRecordSize (queryIn words)) (queryRecordOf ps μ)
+  pub granted-readable : (ps : List Walk) (μ : QueryAssignment) → QueryMeaning (graphOf image) (queryIn query) ps μ → ReadBy (queryRecordSize (queryIn query)) (queryRecordOf ps μ)
   granted-readable ps μ h = query-readable G (g .read .valid) Q (accepted-sound Q (g .accepted)) (g .no-clash) 200 (omega (arith, few-nodes)) (omega (arith, few-edges)) (omega arith) ps μ h (answer-few ps μ h)
 
   -- a variable that is not used has no value
-  unbound : (ps : List Walk) (μ : QueryAssignment) → QueryMeaning (graphOf image) (queryIn words) ps μ → (x : ℕ) → inQuery (queryIn words) x ≡ false → μ x ≡ none
+  unbound : (ps : List Walk) (μ : QueryAssignment) → QueryMeaning (graphOf image) (queryIn query) ps μ → (x : ℕ) → inQuery (queryIn query) x ≡ false → μ x ≡ none
   unbound ps μ h x u =
       let c = query-conforms G (g .read .valid) 200 Q (accepted-sound Q (g .accepted)) ps μ h (answer-few ps μ h) x in
       let z : QueryConforms (G .nodes) (length (G .edges)) 200 (element absent) (μ x) = rw (query-unused→absent Q x u) at c in z
 
   -- two answers with one record: the same paths, and the same value at every variable
-  pub granted-same : (ps qs : List Walk) (μ ν : QueryAssignment) → QueryMeaning (graphOf image) (queryIn words) ps μ → QueryMeaning (graphOf image) (queryIn words) qs ν → queryRecordOf ps μ ≡ queryRecordOf qs ν → (ps ≡ qs) × ((x : ℕ) → μ x ≡ ν x)
+  pub granted-same : (ps qs : List Walk) (μ ν : QueryAssignment) → QueryMeaning (graphOf image) (queryIn query) ps μ → QueryMeaning (graphOf image) (queryIn query) qs ν → queryRecordOf ps μ ≡ queryRecordOf qs ν → (ps ≡ qs) × ((x : ℕ) → μ x ≡ ν x)
   granted-same ps qs μ ν h j e = let z = granted-part ps qs μ ν h j [] [] (ap (λ (r : List ℕ). r ++ []) e) in (z .0, λ x. go x (z .1) (inQuery Q x) refl)
     where
       go : (x : ℕ) → All (λ y. μ y ≡ ν y) twelve → (u : Bool) → inQuery Q x ≡ u → μ x ≡ ν x
@@ -207,34 +207,34 @@ module _ (image words : List ℕ) (g : QueryGranted image words) where
       go x s false f = unbound ps μ h x f ∙ sym (unbound qs ν j x f)
 
 -- ------------------------------------------------------------------ the full listing
-module _ (image words : List ℕ) (ok : queryFixedFault image words ≡ none) where
-  granted : QueryGranted image words
-  granted = query-granted image words ok
+module _ (image query : List ℕ) (ok : queryFixedFault image query ≡ none) where
+  granted : QueryGranted image query
+  granted = query-granted image query ok
 
-  pub query-full-is : queryFullListing image words ≡ queryListing (graphOf image) (queryIn words)
+  pub query-full-is : queryFullListing image query ≡ queryListing (graphOf image) (queryIn query)
   unfolding query-opened
   query-full-is = rw ok refl
 
-  pub query-members : (r : Record) → (r ∈ queryFullListing image words) ↔ QueryListed (graphOf image) (queryIn words) r
-  query-members r = let h = granted-members image words granted r in ((λ m. h .0 (rw query-full-is at m)), (λ l. rw query-full-is (h .1 l)))
+  pub query-members : (r : Record) → (r ∈ queryFullListing image query) ↔ QueryListed (graphOf image) (queryIn query) r
+  query-members r = let h = granted-members image query granted r in ((λ m. h .0 (rw query-full-is at m)), (λ l. rw query-full-is (h .1 l)))
 
-  pub query-unique : (l : List Record) → Sorted l → ((r : Record) → (r ∈ l) ↔ QueryListed (graphOf image) (queryIn words) r) → l ≡ queryFullListing image words
-  query-unique l s h = query-listing-unique (graphOf image) (granted .read .valid) (queryIn words) (accepted-sound (queryIn words) (granted .accepted)) l s h ∙ sym query-full-is
+  pub query-unique : (l : List Record) → Sorted l → ((r : Record) → (r ∈ l) ↔ QueryListed (graphOf image) (queryIn query) r) → l ≡ queryFullListing image query
+  query-unique l s h = query-listing-unique (graphOf image) (granted .read .valid) (queryIn query) (accepted-sound (queryIn query) (granted .accepted)) l s h ∙ sym query-full-is
 
-  pub query-no-longer : (r : Record) → r ∈ queryFullListing image words → length r ≤ 19224
-  query-no-longer r m = let h = query-members r .0 m in rw (h .record-is) (granted-short image words granted (h .paths) (h .assignment) (h .answer))
+  pub query-no-longer : (r : Record) → r ∈ queryFullListing image query → length r ≤ 19224
+  query-no-longer r m = let h = query-members r .0 m in rw (h .record-is) (granted-short image query granted (h .paths) (h .assignment) (h .answer))
 
-  pub query-records-part : (r s : Record) → r ∈ queryFullListing image words → s ∈ queryFullListing image words → (x y : List ℕ) → r ++ x ≡ s ++ y → x ≡ y
+  pub query-records-part : (r s : Record) → r ∈ queryFullListing image query → s ∈ queryFullListing image query → (x y : List ℕ) → r ++ x ≡ s ++ y → x ≡ y
   query-records-part r s m l x y e =
       let h = query-members r .0 m in
       let k = query-members s .0 l in
-      granted-part image words granted (h .paths) (k .paths) (h .assignment) (k .assignment) (h .answer) (k .answer) x y (sym (ap (λ (l : List ℕ). l ++ x) (h .record-is)) ∙ (e ∙ ap (λ (l : List ℕ). l ++ y) (k .record-is))) .2
+      granted-part image query granted (h .paths) (k .paths) (h .assignment) (k .assignment) (h .answer) (k .answer) x y (sym (ap (λ (l : List ℕ). l ++ x) (h .record-is)) ∙ (e ∙ ap (λ (l : List ℕ). l ++ y) (k .record-is))) .2
 
-  pub query-none-begins : (r s : Record) → r ∈ queryFullListing image words → s ∈ queryFullListing image words → (x : List ℕ) → r ++ x ≡ s → x ≡ []
+  pub query-none-begins : (r s : Record) → r ∈ queryFullListing image query → s ∈ queryFullListing image query → (x : List ℕ) → r ++ x ≡ s → x ≡ []
   query-none-begins r s m l x e = query-records-part r s m l x [] (e ∙ sym (append-nil s))
 
-  pub query-same-record : (ps qs : List Walk) (μ ν : QueryAssignment) → QueryMeaning (graphOf image) (queryIn words) ps μ → QueryMeaning (graphOf image) (queryIn words) qs ν → queryRecordOf ps μ ≡ queryRecordOf qs ν → (ps ≡ qs) × ((x : ℕ) → μ x ≡ ν x)
-  query-same-record = granted-same image words granted
+  pub query-same-record : (ps qs : List Walk) (μ ν : QueryAssignment) → QueryMeaning (graphOf image) (queryIn query) ps μ → QueryMeaning (graphOf image) (queryIn query) qs ν → queryRecordOf ps μ ≡ queryRecordOf qs ν → (ps ≡ qs) × ((x : ℕ) → μ x ≡ ν x)
+  query-same-record = granted-same image query granted
 
 -- ------------------------------------------------------------------ for every image and query, refused or not
 unless-all : (P : List Record → Type 0) (c : Cause) (l : List Record) → P [] → (c ≡ none → P l) → P (unlessRefused c l)
@@ -242,25 +242,25 @@ unfolding query-opened
 unless-all P none l h k = k refl
 unless-all P (some a) l h k = h
 
-pub query-full-sorted : (image words : List ℕ) → Sorted (queryFullListing image words)
+pub query-full-sorted : (image query : List ℕ) → Sorted (queryFullListing image query)
 unfolding query-opened
-query-full-sorted image words = unless-all Sorted (queryFixedFault image words) (queryListing (graphOf image) (queryIn words)) tt (λ e. query-listing-sorted (graphOf image) (queryIn words))
+query-full-sorted image query = unless-all Sorted (queryFixedFault image query) (queryListing (graphOf image) (queryIn query)) tt (λ e. query-listing-sorted (graphOf image) (queryIn query))
 
-pub query-full-not-empty : (image words : List ℕ) → All (Before []) (queryFullListing image words)
+pub query-full-not-empty : (image query : List ℕ) → All (Before []) (queryFullListing image query)
 unfolding query-opened
-query-full-not-empty image words = unless-all (All (Before [])) (queryFixedFault image words) (queryListing (graphOf image) (queryIn words)) tt (λ e.
-    let g = query-granted image words e in
-    all-of (Before []) (queryListing (graphOf image) (queryIn words)) (λ r m.
-    let h = granted-members image words g r .0 m in
-    rw (h .record-is) (not-empty (h .paths) (h .assignment) (omega (arith, g .some-part, paths-count (graphOf image) (g .read .valid) 200 (queryIn words) (h .paths) (h .assignment) (h .answer))))))
+query-full-not-empty image query = unless-all (All (Before [])) (queryFixedFault image query) (queryListing (graphOf image) (queryIn query)) tt (λ e.
+    let g = query-granted image query e in
+    all-of (Before []) (queryListing (graphOf image) (queryIn query)) (λ r m.
+    let h = granted-members image query g r .0 m in
+    rw (h .record-is) (not-empty (h .paths) (h .assignment) (omega (arith, g .some-part, paths-count (graphOf image) (g .read .valid) 200 (queryIn query) (h .paths) (h .assignment) (h .answer))))))
   where
     not-empty : (ps : List Walk) (ν : QueryAssignment) → 1 ≤ length ps → Before [] (queryRecordOf ps ν)
     not-empty [] ν l = absurd (omega arith)
     not-empty (p ∷ ps) ν l = refl
 
-pub query-full-readable : (image words : List ℕ) → All (ReadBy (queryRecordSize (queryIn words))) (queryFullListing image words)
+pub query-full-readable : (image query : List ℕ) → All (ReadBy (queryRecordSize (queryIn query))) (queryFullListing image query)
 unfolding query-opened
-query-full-readable image words = unless-all (All (ReadBy (queryRecordSize (queryIn words)))) (queryFixedFault image words) (queryListing (graphOf image) (queryIn words)) tt (λ e.
-    let g = query-granted image words e in
-    all-of (ReadBy (queryRecordSize (queryIn words))) (queryListing (graphOf image) (queryIn words)) (λ r m.
-    let h = granted-members image words g r .0 m in rw (h .record-is) (granted-readable image words g (h .paths) (h .assignment) (h .answer))))
+query-full-readable image query = unless-all (All (ReadBy (queryRecordSize (queryIn query)))) (queryFixedFault image query) (queryListing (graphOf image) (queryIn query)) tt (λ e.
+    let g = query-granted image query e in
+    all-of (ReadBy (queryRecordSize (queryIn query))) (queryListing (graphOf image) (queryIn query)) (λ r m.
+    let h = granted-members image query g r .0 m in rw (h .record-is) (granted-readable image query g (h .paths) (h .assignment) (h .answer))))

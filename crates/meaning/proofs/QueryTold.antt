@@ -87,9 +87,9 @@ untyped-is Q ok = ((λ u. query-typed-iff Q .1 (query-no-clash Q ok u)), (λ t. 
     none-clash (x ∷ l) h = rw (clean (queryTypeOf Q x) (h x)) (none-clash l h)
 
 -- ------------------------------------------------------------------ the judge
-pub query-judged : (image words : List ℕ) (r : Record) → (judgeQuery image words r ≡ true) ↔ (r ∈ queryFullListing image words)
+pub query-judged : (image query : List ℕ) (r : Record) → (judgeQuery image query r ≡ true) ↔ (r ∈ queryFullListing image query)
 unfolding query-opened
-query-judged image words r = (one-of→ r (queryFullListing image words), one-of← r)
+query-judged image query r = (one-of→ r (queryFullListing image query), one-of← r)
 
-pub query-judged-answer : (image words : List ℕ) → queryFixedFault image words ≡ none → (r : Record) → (judgeQuery image words r ≡ true) ↔ QueryListed (graphOf image) (queryIn words) r
-query-judged-answer image words ok r = ((λ e. query-members image words ok r .0 (query-judged image words r .0 e)), (λ h. query-judged image words r .1 (query-members image words ok r .1 h)))
+pub query-judged-answer : (image query : List ℕ) → queryFixedFault image query ≡ none → (r : Record) → (judgeQuery image query r ≡ true) ↔ QueryListed (graphOf image) (queryIn query) r
+query-judged-answer image query ok r = ((λ e. query-members image query ok r .0 (query-judged image query r .0 e)), (λ h. query-judged image query r .1 (query-members image query ok r .1 h)))

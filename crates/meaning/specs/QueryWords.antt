@@ -77,7 +77,7 @@ queryUntyped Q = anyOf twelve (λ x. isQueryClash (queryTypeOf Q x))
 
 -- 31, 32, 11 to 16, 33
 unfoldable pub queryFault : List ℕ → Cause
-queryFault w = firstOf (rowless 31 (badLayout w)) (firstOf (rowless 32 (badNames (partsOf w))) (firstOf (partsFault (partsOf w)) (rowless 33 (queryUntyped (queryOf (partsOf w))))))
+queryFault query = firstOf (rowless 31 (badLayout query)) (firstOf (rowless 32 (badNames (partsOf query))) (firstOf (partsFault (partsOf query)) (rowless 33 (queryUntyped (queryOf (partsOf query))))))
 
 -- 21: a part's restrictor is not 1 to 4
 unfoldable pub badRestrictor : List Part → Bool
