@@ -5,10 +5,12 @@ use mathlib.Core.List.{List, [], _++_, _∷_, append-nil}
 use mathlib.Core.Option.{Option, none, some}
 use mathlib.Core.Bool.{Bool, _&&_, _||_, false, not, true}
 use mathlib.Core.Logic.{_≢_, _↔_}
-use Prim.Native.Nat.{ℕ}
+use Prim.Native.Nat.{_+_, ℕ}
 use native.Mathlib.Omega.{arith}
 use lib.Dec.{eqb, leb}
 use lib.ListN.{length}
+use lib.Seq.{take-all}
+use borrow.Author.Tests.{eq-eqb}
 use Rattle.meaning.proofs.Accepted.{Accepted}
 use Rattle.meaning.proofs.Conforming.{conforms}
 use Rattle.meaning.proofs.Granted.{full-sorted, granted, members, pattern-accepted, refused-empty}
@@ -24,11 +26,12 @@ use Rattle.meaning.specs.Graph.{Graph, Valid, Walk, len}
 use Rattle.meaning.specs.Image.{graphOf, imageFault}
 use Rattle.meaning.specs.Joins.{QueryAssignment, QueryValue, lifted, plainly}
 use Rattle.meaning.specs.Listing.{Listed}
+use Rattle.meaning.specs.Machine.{plainRun}
 use Rattle.meaning.specs.Operations.{fillPageLeft}
 use Rattle.meaning.specs.Page.{Left, Lent, after, left, outcome}
 use Rattle.meaning.specs.Pattern.{Pattern, inVar}
 use Rattle.meaning.specs.Query.{Query, QueryFound, element, queryTypeOf, unnamed}
-use Rattle.meaning.specs.QueryListing.{fillQueryPage, judgeQuery, queryFixedFault, queryFullListing, queryIn}
+use Rattle.meaning.specs.QueryListing.{fillQueryPage, fixedBy, judgeQuery, machineOf, queryFixedFault, queryFullListing, queryIn}
 use Rattle.meaning.specs.QueryRecord.{QueryListed, queryRecordOf, querySlotWords, queryVariableWords, twelve}
 use Rattle.meaning.specs.QueryWords.{Part, badLayout, badNames, badRestrictor, isQueryClash, partQuery, partsFault, partsOf, queryFault, queryOf, queryUntyped}
 use Rattle.meaning.specs.Record.{Record, pathWords, recordOf, slotWords, variableWords}
@@ -149,3 +152,27 @@ module _ (query : List ℕ) (a : Part) (alone : Alone query a) where
     pub one-page : (bookmark : List ℕ) (c : Lent) → fillQueryPage image query bookmark c ≡ fillPageLeft image (a .words) (a .restrictor) bookmark c
     unfolding query-opened
     one-page bookmark c = ap₂ (λ (f : Cause) (l : List Record). left c (outcome f c (after bookmark l))) one-fault one-listing
+
+-- ------------------------------------------------------------------ as words
+-- one part without a name: a pattern's words and its restrictor's number
+abbrev pub alone : ℕ → List ℕ → List ℕ
+alone n pattern = 1 ∷ n ∷ 0 ∷ length pattern ∷ pattern
+
+abbrev only-part : ℕ → List ℕ → Part
+only-part n pattern = record { restrictor = n; name = 0; words = pattern }
+
+pub alone-is : (n : ℕ) (pattern : List ℕ) → Alone (alone n pattern) (record { restrictor = n; name = 0; words = pattern })
+unfolding query-opened
+alone-is n pattern = record {
+  laid-out = ap not (eq-eqb (length (n ∷ 0 ∷ length pattern ∷ pattern)) (3 + (length pattern + 0)) (omega arith));
+  parts-are = ap (λ (w : List ℕ). only-part n w ∷ []) (take-all (length pattern) pattern (omega arith));
+  no-name = refl;
+}
+
+-- what the base listed, and what its machine printed
+pub one-part : (image pattern : List ℕ) (n : ℕ) → queryFullListing image (1 ∷ n ∷ 0 ∷ length pattern ∷ pattern) ≡ fullListing image pattern n
+one-part image pattern n = one-listing (alone n pattern) (only-part n pattern) (alone-is n pattern) image
+
+pub one-part-machine : (image pattern : List ℕ) (n : ℕ) (calls : List Lent) → machineOf (fixedBy image (1 ∷ n ∷ 0 ∷ length pattern ∷ pattern)) calls ≡ plainRun (fixedFault image pattern n) (fullListing image pattern n) 0 calls
+unfolding query-opened
+one-part-machine image pattern n calls = ap₂ (λ (f : Cause) (l : List Record). plainRun f l 0 calls) (one-fault (alone n pattern) (only-part n pattern) (alone-is n pattern) image) (one-part image pattern n)

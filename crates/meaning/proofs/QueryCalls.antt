@@ -77,6 +77,24 @@ module _ (F : Fixed) (proper : Proper F) where
   demand-3-of calls = runs-agree calls [] full refl
 
   -- ------------------------------------------------------------------ the records on the pages
+  begins : (cs : List Lent) (pre rest : List Record) → full ≡ pre ++ rest → (later : List Record) × (each (plainRun (F .fault) full (length pre) cs) (recordsOn F) ++ later ≡ rest)
+  unfolding query-opened printedRecords
+  begins [] pre rest e = (rest, refl)
+  begins (c ∷ cs) pre rest e =
+      let d : drop (length pre) full ≡ rest = rw e (drop-append-seam pre rest) in
+      let o : Outcome = outcome (F .fault) c rest in
+      let out : List Record = printedRecords o in
+      let left-over : List Record = drop (length out) rest in
+      let number : length pre + printedCount o ≡ length (pre ++ out) = ap (λ (x : ℕ). length pre + x) (count-is o) ∙ sym (length-append pre out) in
+      let ih = begins cs (pre ++ out) left-over (moved c pre rest e) in
+      let shown : List Record = each (plainRun (F .fault) full (length (pre ++ out)) cs) (recordsOn F) in
+      (ih .0, rw (d, number, turn-shows c pre rest e, append-assoc out shown (ih .0), ih .1) (outcome-begins (F .fault) c rest))
+
+  -- nothing is printed twice and nothing passed over: the pages show a beginning of the full listing
+  pub pages-begin-of : (calls : List Lent) → (later : List Record) × (each (hostOf F [] calls) (recordsOn F) ++ later ≡ F .records)
+  unfolding query-opened printedRecords
+  pages-begin-of calls = let h = begins calls [] full refl in (h .0, ap (λ (l : List Turn). each l (recordsOn F) ++ h .0) (demand-3-of calls) ∙ h .1)
+
   until-done : (cs : List Lent) (pre rest : List Record) → full ≡ pre ++ rest → (l : List Record) → untilDone F (plainRun (F .fault) full (length pre) cs) ≡ some l → l ≡ rest
   unfolding query-opened printedRecords
   until-done [] pre rest e l h = no-none h
@@ -156,3 +174,7 @@ query-demand-3-bytes image query = demand-3-bytes-of (fixedBy image query) (fixe
 pub query-pages-complete : (image query : List ℕ) (calls : List Lent) (l : List Record) → untilDone (fixedBy image query) (hostOf (fixedBy image query) [] calls) ≡ some l → l ≡ queryFullListing image query
 unfolding query-opened
 query-pages-complete image query calls l h = pages-complete-of (fixedBy image query) (fixed-proper image query) calls l h
+
+pub query-pages-begin : (image query : List ℕ) (calls : List Lent) → (later : List Record) × (each (hostOf (fixedBy image query) [] calls) (recordsOn (fixedBy image query)) ++ later ≡ queryFullListing image query)
+unfolding query-opened
+query-pages-begin image query calls = pages-begin-of (fixedBy image query) (fixed-proper image query) calls
