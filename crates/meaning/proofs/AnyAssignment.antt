@@ -47,7 +47,7 @@ module _ (n m k b : ℕ) where
   entries-bounded τ f no-entry a h = tt
   entries-bounded τ f (entry p v g) a h = (f v (a .0) (omega (arith, entry-words p v g)), entries-bounded τ f g (a .1) (omega (arith, entry-words p v g)))
 
-  bounded : (τ : Ty) (v : Value) → Of n m k τ v → length (valueWords v) ≤ b → Of n m b τ v
+  pub bounded : (τ : Ty) (v : Value) → Of n m k τ v → length (valueWords v) ≤ b → Of n m b τ v
   unfolding opened
   bounded Node v o h = o
   bounded Edge v o h = o

@@ -53,3 +53,6 @@ pub mod QueryGranted
 pub mod QueryCalls
 pub mod OnePart
 pub mod QueryTold
+pub mod QueryShared
+pub mod QueryUntyped
+pub mod QueryAnyAssignment

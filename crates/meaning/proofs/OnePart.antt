@@ -4,10 +4,10 @@ use mathlib.Core.Path.{_∙_, _≡_, ap, ap₂, refl, sym}
 use mathlib.Core.List.{List, [], _++_, _∷_, append-nil}
 use mathlib.Core.Option.{Option, none, some}
 use mathlib.Core.Bool.{Bool, _&&_, _||_, false, not, true}
-use mathlib.Core.Logic.{_≢_, _↔_}
+use mathlib.Core.Logic.{_≢_}
 use Prim.Native.Nat.{_+_, ℕ}
 use native.Mathlib.Omega.{arith}
-use lib.Dec.{eqb, leb}
+use lib.Dec.{leb}
 use lib.ListN.{length}
 use lib.Seq.{take-all}
 use borrow.Author.Tests.{eq-eqb}
@@ -20,20 +20,20 @@ use Rattle.meaning.proofs.QueryOpened.{query-opened}
 use Rattle.meaning.proofs.Unused.{unused→absent}
 use Rattle.meaning.specs.Answer.{Answer, Restrictor, restrictorOf}
 use Rattle.meaning.specs.Assignment.{Assignment, Conforms, Value}
-use Rattle.meaning.specs.Basics.{Cause, _∈_, each, eight, firstOf, rowless}
-use Rattle.meaning.specs.FullListing.{fixedFault, fullListing, isOneOf, judge, unlessRefused}
+use Rattle.meaning.specs.Basics.{Cause, eight, firstOf, rowless}
+use Rattle.meaning.specs.FullListing.{fixedFault, fullListing, isOneOf, judge}
 use Rattle.meaning.specs.Graph.{Graph, Valid, Walk, len}
 use Rattle.meaning.specs.Image.{graphOf, imageFault}
-use Rattle.meaning.specs.Joins.{QueryAssignment, QueryValue, lifted, plainly}
+use Rattle.meaning.specs.Joins.{lifted, plainly}
 use Rattle.meaning.specs.Listing.{Listed}
 use Rattle.meaning.specs.Machine.{plainRun}
 use Rattle.meaning.specs.Operations.{fillPageLeft}
-use Rattle.meaning.specs.Page.{Left, Lent, after, left, outcome}
+use Rattle.meaning.specs.Page.{Lent, after, left, outcome}
 use Rattle.meaning.specs.Pattern.{Pattern, inVar}
-use Rattle.meaning.specs.Query.{Query, QueryFound, element, queryTypeOf, unnamed}
+use Rattle.meaning.specs.Query.{unnamed}
 use Rattle.meaning.specs.QueryListing.{fillQueryPage, fixedBy, judgeQuery, machineOf, queryFixedFault, queryFullListing, queryIn}
 use Rattle.meaning.specs.QueryRecord.{QueryListed, queryRecordOf, querySlotWords, queryVariableWords, twelve}
-use Rattle.meaning.specs.QueryWords.{Part, badLayout, badNames, badRestrictor, isQueryClash, partQuery, partsFault, partsOf, queryFault, queryOf, queryUntyped}
+use Rattle.meaning.specs.QueryWords.{Part, badLayout, badRestrictor, partsOf, queryFault, queryUntyped}
 use Rattle.meaning.specs.Record.{Record, pathWords, recordOf, slotWords, variableWords}
 use Rattle.meaning.specs.Table.{anyOf, isClash, isVariable, patternFault, patternOf}
 use Rattle.meaning.specs.Typing.{Found, absent, clash, typeOf, typed}

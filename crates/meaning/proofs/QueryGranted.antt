@@ -1,41 +1,40 @@
 -- The full listing of an image and a query's words: what nothing refuses is a graph and a query, and what then holds of every record.
 use mathlib.Core.Path.{_∙_, _≡_, ap, refl, sym}
-use mathlib.Core.List.{List, Memᴰ·of-map, [], _++_, _∷_, append-nil, map}
-use mathlib.Core.Option.{Option, none, some}
+use mathlib.Core.List.{List, [], _++_, _∷_, append-nil}
+use mathlib.Core.Option.{none, some}
 use mathlib.Core.Bool.{Bool, _&&_, _||_, false, not, true}
 use mathlib.Core.Logic.{_≢_, _↔_}
-use Prim.Native.Nat.{_*_, _+_, _<_, _≤_, suc, zero, ℕ}
+use Prim.Native.Nat.{_*_, _+_, _≤_, suc, zero, ℕ}
 use native.Mathlib.Omega.{arith}
 use lib.Dec.{eqb, leb}
-use lib.ListN.{drop, getD, length, length-map, take}
+use lib.ListN.{drop, getD, length, length-map}
 use borrow.Author.Tests.{eqb-true, le-leb, leb-true}
-use Rattle.meaning.proofs.Accepted.{Accepted, in-upFrom, typed-pattern}
+use Rattle.meaning.proofs.Accepted.{Accepted, in-upFrom}
 use Rattle.meaning.proofs.Causes.{first-none, whole-none}
 use Rattle.meaning.proofs.Granted.{pattern-accepted}
 use Rattle.meaning.proofs.ImageRead.{Read, image-read}
 use Rattle.meaning.proofs.Lists.{length-up}
-use Rattle.meaning.proofs.Logic.{all-mem, all-of, and-both, and-l, and-r, either, is-false, no-none, no-true, not-false, or-cases, or-false-l, or-false-r}
-use Rattle.meaning.proofs.QueryAnswers.{query-domain, query-listing-iff, query-listing-sorted, query-listing-unique}
+use Rattle.meaning.proofs.Logic.{all-mem, all-of, and-both, and-l, and-r, either, no-true, not-false, or-cases, or-false-l, or-false-r}
+use Rattle.meaning.proofs.QueryAnswers.{query-listing-iff, query-listing-sorted, query-listing-unique}
 use Rattle.meaning.proofs.QueryOpened.{query-opened}
 use Rattle.meaning.proofs.QueryReading.{PathsFew, ReadBy, paths-count, query-conforms, query-part, query-readable}
 use Rattle.meaning.proofs.QuerySize.{QueryAccepted, accepted-sound, paths-few, query-size}
 use Rattle.meaning.proofs.QueryTypes.{element-inj, query-unused→absent}
-use Rattle.meaning.proofs.Sorting.{sort→}
 use Rattle.meaning.specs.Answer.{Base, longest, restrictorOf, simple, trail}
-use Rattle.meaning.specs.Basics.{All, Cause, _∈_, each, firstOf, if_then_else_, upFrom, rowless}
+use Rattle.meaning.specs.Basics.{All, Cause, _∈_, firstOf, if_then_else_, upFrom, rowless}
 use Rattle.meaning.specs.FullListing.{unlessRefused}
 use Rattle.meaning.specs.Graph.{Graph, Walk}
 use Rattle.meaning.specs.Image.{edgeCount, edgeRow, graphOf, imageFault}
-use Rattle.meaning.specs.Joins.{QueryAssignment, QueryConforms, QueryMeaning, queryAnswers}
+use Rattle.meaning.specs.Joins.{QueryAssignment, QueryConforms, QueryMeaning}
 use Rattle.meaning.specs.Listing.{Before, Sorted}
 use Rattle.meaning.specs.Pattern.{inVar}
-use Rattle.meaning.specs.Query.{Query, QueryFound, element, inQuery, joining, naming, path, queryTypeOf, unnamed, width}
+use Rattle.meaning.specs.Query.{Query, element, inQuery, joining, naming, queryTypeOf, unnamed, width}
 use Rattle.meaning.specs.QueryListing.{queryFixedFault, queryFullListing, queryIn}
-use Rattle.meaning.specs.QueryRecord.{QueryListed, queryAnswerRecord, queryListing, queryRecordOf, queryRecordSize, twelve}
+use Rattle.meaning.specs.QueryRecord.{QueryListed, queryListing, queryRecordOf, queryRecordSize, twelve}
 use Rattle.meaning.specs.QueryWords.{Part, badLayout, badNames, badRestrictor, isName, isQueryClash, lengthsOf, nameUsed, partQuery, partsFault, partsFrom, partsOf, queryFault, queryOf, queryUntyped}
 use Rattle.meaning.specs.Record.{Record}
-use Rattle.meaning.specs.Table.{anyOf, isClash, isVariable, patternFault, patternOf}
-use Rattle.meaning.specs.Typing.{Found, absent, clash, typed}
+use Rattle.meaning.specs.Table.{anyOf, isVariable, patternFault, patternOf}
+use Rattle.meaning.specs.Typing.{absent, clash}
 
 -- the image and the query of a listing that nothing fixed refuses
 pub record QueryGranted (image query : List ℕ) : Type 0 where
@@ -101,7 +100,7 @@ parts-accepted (a ∷ b ∷ l) n e f =
 unfoldable pub isQueryVariable : ℕ → Bool
 isQueryVariable x = leb 1 x && leb x 12
 
-variable-in : (x : ℕ) → isVariable x ≡ true → isQueryVariable x ≡ true
+pub variable-in : (x : ℕ) → isVariable x ≡ true → isQueryVariable x ≡ true
 unfolding query-opened isQueryVariable
 variable-in x h = let a = leb-true x 8 (and-r (leb 1 x) (leb x 8) h) in and-both (and-l (leb 1 x) (leb x 8) h) (le-leb x 12 (omega arith))
 
@@ -164,11 +163,11 @@ module _ (image query : List ℕ) (g : QueryGranted image query) where
   abbrev Q : Query
   Q = queryIn query
 
-  few-nodes : graphOf image .nodes ≤ 200
+  pub few-nodes : graphOf image .nodes ≤ 200
   unfolding query-opened
   few-nodes = g .read .few-nodes
 
-  few-edges : length (graphOf image .edges) ≤ 200
+  pub few-edges : length (graphOf image .edges) ≤ 200
   unfolding query-opened
   few-edges = let h : edgeCount image ≤ 200 = g .read .few-edges in omega (arith, length-map (upFrom (edgeCount image) 0) (edgeRow image), length-up (edgeCount image) 0)
 

@@ -1,17 +1,17 @@
 -- What the checker and the judge say of a query: the 72 words tell each variable's type; 33 is just that some variable has none; the judge says
 -- yes to the records of the answers alone.
-use mathlib.Core.Path.{_∙_, _≡_, ap, refl, sym}
+use mathlib.Core.Path.{_∙_, _≡_, ap, refl}
 use mathlib.Core.List.{List, [], _++_, _∷_}
 use mathlib.Core.Option.{none}
-use mathlib.Core.Bool.{Bool, _&&_, false, true}
+use mathlib.Core.Bool.{false, true}
 use mathlib.Core.Logic.{_≢_, _↔_}
-use Prim.Native.Nat.{_*_, _+_, _-_, _<_, _≤_, suc, zero, ℕ}
+use Prim.Native.Nat.{_*_, _+_, _-_, _≤_, suc, zero, ℕ}
 use native.Mathlib.Omega.{arith}
 use lib.Dec.{leb}
-use lib.ListN.{drop, length, length-append, replicate, take}
+use lib.ListN.{length, length-append, replicate}
 use borrow.Author.Tests.{leb-true}
 use Rattle.meaning.proofs.Judged.{one-of→, one-of←}
-use Rattle.meaning.proofs.Logic.{and-l, and-r, is-false, no-true, or-cases, either}
+use Rattle.meaning.proofs.Logic.{and-l, and-r}
 use Rattle.meaning.proofs.QueryGranted.{isQueryVariable, query-members, query-no-clash}
 use Rattle.meaning.proofs.QueryOpened.{query-opened}
 use Rattle.meaning.proofs.QuerySize.{QueryAccepted}
@@ -19,14 +19,13 @@ use Rattle.meaning.proofs.QueryTypes.{query-has→, query-typed-iff, qu
 use Rattle.meaning.proofs.TypeWords.{block, length-padded, padded-is, type-fits, typeSlot}
 use Rattle.meaning.specs.Basics.{_∈_, each, upFrom}
 use Rattle.meaning.specs.Image.{graphOf}
-use Rattle.meaning.specs.Pattern.{nesting}
-use Rattle.meaning.specs.Query.{Query, QueryFound, QueryHas, QueryTy, QueryTyped, Path, element, foundTy, has-in-both, has-in-first, has-in-second, has-name, has-other, has-restricted, inQuery, joining, naming, path, plain, queryTypeOf, unnamed}
+use Rattle.meaning.specs.Query.{Query, QueryFound, QueryHas, QueryTy, QueryTyped, Path, element, foundTy, has-in-both, has-in-first, has-in-second, has-name, has-other, has-restricted, inQuery, path, plain, queryTypeOf}
 use Rattle.meaning.specs.QueryListing.{judgeQuery, queryFixedFault, queryFullListing, queryIn}
 use Rattle.meaning.specs.QueryRecord.{QueryListed, twelve}
 use Rattle.meaning.specs.QueryWords.{isQueryClash, queryFoundWords, queryTypeWords, queryUntyped}
 use Rattle.meaning.specs.Record.{Record}
-use Rattle.meaning.specs.Table.{anyOf, isClash, padded, tyWords}
-use Rattle.meaning.specs.Typing.{Found, Ty, absent, clash, typed}
+use Rattle.meaning.specs.Table.{anyOf, padded, tyWords}
+use Rattle.meaning.specs.Typing.{absent, clash, typed}
 
 -- ------------------------------------------------------------------ types in words
 unfoldable pub queryTyWords : QueryTy → List ℕ

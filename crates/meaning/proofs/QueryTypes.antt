@@ -1,7 +1,6 @@
 -- The computed types of a query are those that Figure 2 derives, for every query, typed or not; and a query without a clash is well typed.
 use mathlib.Core.Path.{_∙_, _≡_, ap, refl, sym}
-use mathlib.Core.Option.{Option}
-use mathlib.Core.Bool.{Bool, _||_, false, true}
+use mathlib.Core.Bool.{Bool, false, true}
 use mathlib.Core.Logic.{_≢_, _↔_}
 use Prim.Native.Nat.{ℕ}
 use native.Mathlib.Omega.{arith}
@@ -11,10 +10,9 @@ use Rattle.meaning.proofs.Logic.{no-false, no-true, or-false-both, or-f
 use Rattle.meaning.proofs.QueryOpened.{query-opened}
 use Rattle.meaning.proofs.Types.{has-iff}
 use Rattle.meaning.proofs.Unused.{absent→unused, unused→absent}
-use Rattle.meaning.specs.Answer.{Restrictor}
-use Rattle.meaning.specs.Pattern.{Pattern, inVar}
+use Rattle.meaning.specs.Pattern.{inVar}
 use Rattle.meaning.specs.Query.{Query, QueryFound, QueryHas, QuerySingle, QueryTy, QueryTyped, Path, element, foundTy, has-in-both, has-in-first, has-in-second, has-name, has-other, has-restricted, inQuery, joining, joiningTy, naming, namingTy, one-element, path, plain, queryTypeOf, unnamed}
-use Rattle.meaning.specs.Typing.{Edge, Found, Group, Has, Maybe, Node, Single, Ty, absent, clash, concatenationTy, one-edge, one-node, typeOf, typed}
+use Rattle.meaning.specs.Typing.{Edge, Found, Group, Maybe, Node, Single, Ty, absent, clash, concatenationTy, one-edge, one-node, typeOf, typed}
 
 -- ------------------------------------------------------------------ what is found differs
 isPath : QueryFound → Bool

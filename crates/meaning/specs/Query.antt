@@ -1,9 +1,9 @@
 -- 000, Figure 1: queries; and the rules of Figure 2 for them (Q-1).
 use mathlib.Core.Path.{_≡_}
-use mathlib.Core.List.{List, [], _∷_, _++_}
+use mathlib.Core.List.{List, _∷_, _++_}
 use mathlib.Core.Bool.{Bool, true, false, _||_}
 use mathlib.Core.Logic.{_≢_}
-use Prim.Native.Nat.{ℕ, zero, suc, _+_}
+use Prim.Native.Nat.{ℕ, _+_}
 use lib.Dec.{eqb}
 use Rattle.meaning.specs.Pattern.{Pattern, inVar, vars}
 use Rattle.meaning.specs.Typing.{Ty, Single, Has, Found, absent, clash, typed, concatenationTy, typeOf}

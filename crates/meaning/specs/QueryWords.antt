@@ -1,15 +1,13 @@
 -- Q-1, the words of a query: its parts, refusals 31, 32 and 33 beside those of the parts, the query of accepted words, its types in words.
-use mathlib.Core.List.{List, [], _∷_, _++_}
-use mathlib.Core.Option.{Option, none, some}
+use mathlib.Core.List.{List, [], _∷_}
+use mathlib.Core.Option.{none}
 use mathlib.Core.Bool.{Bool, true, false, not, _&&_, _||_}
 use Prim.Native.Nat.{ℕ, zero, suc, _+_, _*_}
 use lib.Dec.{eqb, leb}
 use lib.ListN.{length, getD, take, drop}
 use Rattle.meaning.specs.Basics.{if_then_else_, each, Cause, firstOf, rowless}
 use Rattle.meaning.specs.Pattern.{node}
-use Rattle.meaning.specs.Typing.{Found, absent, clash, typed}
 use Rattle.meaning.specs.Answer.{restrictorOf}
-use Rattle.meaning.specs.Record.{Record}
 use Rattle.meaning.specs.Table.{anyOf, isClash, patternFault, patternOf, foundWords, padded}
 use Rattle.meaning.specs.Query.{Query, unnamed, naming, joining, QueryFound, element, path, queryTypeOf}
 use Rattle.meaning.specs.QueryRecord.{twelve}
