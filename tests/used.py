@@ -14,7 +14,7 @@ IMPORT = re.compile(r"(?ms)^(?:pub )?use .*?(?:\}|$)")
 OURS = re.compile(r"(?s)(?:pub |ghost )?use Rattle·(\w+)(?:·\w+)?\.(specs|proofs)\.([^{\s]+?)(?:\.\{(.*)\}| as (\S+))?\s*$")
 SIGNATURE = re.compile(r"^( *)(?:unfoldable |abbrev )*(pub )?(?:data |record )?(\S+)")
 ITEM = re.compile(r"(?m)^( *)pub (?:extern \"C\" )?(?:fn|struct|enum|const) (\w+)")
-EXAMPLES = ("Examples", "Rules")
+EXAMPLES = ("Examples", "QueryExamples", "Rules")
 
 
 def files(ending):
@@ -109,7 +109,7 @@ class Tree:
     def follow(self):
         while self.queue:
             key, name = self.queue.pop()
-            if key[2] == "Opened":
+            if key[2].endswith("Opened"):
                 continue  # what is only opened for proofs is not used by them
             file, text = self.files[key], self.files[key].declared[name]
             said = tokens(text)

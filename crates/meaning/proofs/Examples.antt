@@ -1,15 +1,17 @@
--- The examples of 01 marked *, from raw bytes and words, as one table and one theorem.
+-- The examples of 01 marked *, from raw bytes and words, each a query of one part, as one table and one theorem.
 use mathlib.Core.Path.{_≡_, refl}
 use mathlib.Core.List.{List, [], _++_, _∷_, map}
 use mathlib.Core.Option.{none, some}
 use Prim.Native.Nat.{_%_, _-_, _/_, ℕ}
 use lib.ListN.{length, replicate}
 use Rattle.meaning.proofs.Opened.{opened}
+use Rattle.meaning.proofs.QueryOpened.{query-opened}
 use Rattle.meaning.specs.Assignment.{count}
-use Rattle.meaning.specs.FullListing.{fixedFault, fullListing}
+use Rattle.meaning.specs.FullListing.{fullListing}
 use Rattle.meaning.specs.Image.{number}
-use Rattle.meaning.specs.Machine.{plainMachine}
 use Rattle.meaning.specs.Page.{Left, Lent, join}
+use Rattle.meaning.specs.QueryListing.{fixedBy, machineOf, queryFixedFault, queryFullListing}
+use Rattle.meaning.specs.QueryWords.{alone}
 use Rattle.meaning.specs.Record.{Record}
 use Rattle.meaning.specs.Report.{reportBytes}
 use Rattle.meaning.specs.Table.{patternOf, typeWords}
@@ -19,11 +21,10 @@ pub data Listing : Type 0 where
   refuses : ℕ → ℕ → Listing
   lists : List Record → Listing
 
--- image, pattern and restrictor, the listing, the calls made and what they leave
+-- image and query, the listing, the calls made and what they leave
 pub record Example : Type 0 where
   pub image : List ℕ
-  pub pattern : List ℕ
-  pub restrictor : ℕ
+  pub query : List ℕ
   pub listing-is : Listing
   pub calls : List Lent
   pub leaves : List Left
@@ -52,29 +53,28 @@ abbrev both-ways : List ℕ
 both-ways = 2 ∷ 1 ∷ 0 ∷ 0 ∷ 0 ∷ 3 ∷ 1 ∷ 0 ∷ 0 ∷ 0 ∷ 5 ∷ 0 ∷ 1 ∷ 0 ∷ 0 ∷ []
 
 -- a call with a page of n words and a report of 64 bytes, all with other contents before
-abbrev page-of : ℕ → Lent
+abbrev pub page-of : ℕ → Lent
 page-of n = record { page = replicate n 9; work = replicate 20000 3; report = replicate 64 5 }
 
 -- a call that filled its page: the report's numbers and the page
-abbrev fills : ℕ → ℕ → ℕ → List ℕ → Left
+abbrev pub fills : ℕ → ℕ → ℕ → List ℕ → Left
 fills count used done page = record { result = 1; page = page; work = replicate 20000 0; report = reportBytes 0 0 count used done 0 }
 
 -- an example of which only the listing is told: one call with a page that holds it shows the same
 abbrev lists-only : List ℕ → List ℕ → ℕ → List Record → Example
 lists-only image pattern n records =
-    record { image = image; pattern = pattern; restrictor = n; listing-is = lists records; calls = page-of 40 ∷ []; leaves = fills (length records) (length (join records)) 1 (join records ++ replicate (40 - length (join records)) 9) ∷ [] }
+    record { image = image; query = alone n pattern; listing-is = lists records; calls = page-of 40 ∷ []; leaves = fills (length records) (length (join records)) 1 (join records ++ replicate (40 - length (join records)) 9) ∷ [] }
 
 abbrev refuses-only : List ℕ → ℕ → ℕ → Example
 refuses-only pattern number row =
-    record { image = T; pattern = pattern; restrictor = 1; listing-is = refuses number row; calls = page-of 40 ∷ []; leaves = record { result = 1; page = replicate 40 9; work = replicate 20000 3; report = reportBytes number row 0 0 0 0 } ∷ [] }
+    record { image = T; query = alone 1 pattern; listing-is = refuses number row; calls = page-of 40 ∷ []; leaves = record { result = 1; page = replicate 40 9; work = replicate 20000 3; report = reportBytes number row 0 0 0 0 } ∷ [] }
 
 abbrev pub examples : List Example
 examples =
     -- T, P: the three records; pages of 10 words: one record each twice, then 23 needing 17
     record {
       image = T;
-      pattern = P;
-      restrictor = 1;
+      query = alone 1 P;
       listing-is = lists ((1 ∷ 0 ∷ 0 ∷ 1 ∷ 1 ∷ 1 ∷ 0 ∷ 0 ∷ 1 ∷ 0 ∷ []) ∷ (1 ∷ 1 ∷ 1 ∷ 2 ∷ 1 ∷ 1 ∷ 1 ∷ 1 ∷ 2 ∷ 1 ∷ []) ∷ (2 ∷ 0 ∷ 0 ∷ 1 ∷ 1 ∷ 2 ∷ 2 ∷ 1 ∷ 0 ∷ 0 ∷ 1 ∷ 0 ∷ 1 ∷ 1 ∷ 1 ∷ 2 ∷ 1 ∷ []) ∷ []);
       calls = page-of 10 ∷ page-of 10 ∷ page-of 10 ∷ [];
       leaves =
@@ -113,14 +113,14 @@ unfolding opened
 example-shortest = refl
 
 abbrev pub listing-of : Example → Listing
-listing-of x = elim (fixedFault (x .image) (x .pattern) (x .restrictor)) [ some c ↦ refuses (c .0) (c .1) | none ↦ lists (fullListing (x .image) (x .pattern) (x .restrictor)) ]
+listing-of x = elim (queryFixedFault (x .image) (x .query)) [ some c ↦ refuses (c .0) (c .1) | none ↦ lists (queryFullListing (x .image) (x .query)) ]
 
 abbrev pub computed : Example → Listing × List Left
-computed x = (listing-of x, map (λ t. t .left) (plainMachine (x .image) (x .pattern) (x .restrictor) (x .calls)))
+computed x = (listing-of x, map (λ t. t .left) (machineOf (fixedBy (x .image) (x .query)) (x .calls)))
 
 -- the table, as one theorem
 pub examples-hold : map computed examples ≡ map (λ x. (x .listing-is, x .leaves)) examples
-unfolding opened
+unfolding query-opened
 examples-hold = refl
 
 -- T, P has the types that the program prints, 1:4.2

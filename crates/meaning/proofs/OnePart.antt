@@ -33,7 +33,7 @@ use Rattle.meaning.specs.Pattern.{Pattern, inVar}
 use Rattle.meaning.specs.Query.{unnamed}
 use Rattle.meaning.specs.QueryListing.{fillQueryPage, fixedBy, judgeQuery, machineOf, queryFixedFault, queryFullListing, queryIn}
 use Rattle.meaning.specs.QueryRecord.{QueryListed, queryRecordOf, querySlotWords, queryVariableWords, twelve}
-use Rattle.meaning.specs.QueryWords.{Part, badLayout, badRestrictor, partsOf, queryFault, queryUntyped}
+use Rattle.meaning.specs.QueryWords.{Part, alone, badLayout, badRestrictor, partsOf, queryFault, queryUntyped}
 use Rattle.meaning.specs.Record.{Record, pathWords, recordOf, slotWords, variableWords}
 use Rattle.meaning.specs.Table.{anyOf, isClash, isVariable, patternFault, patternOf}
 use Rattle.meaning.specs.Typing.{Found, absent, clash, typeOf, typed}
@@ -154,10 +154,6 @@ module _ (query : List ℕ) (a : Part) (alone : Alone query a) where
     one-page bookmark c = ap₂ (λ (f : Cause) (l : List Record). left c (outcome f c (after bookmark l))) one-fault one-listing
 
 -- ------------------------------------------------------------------ as words
--- one part without a name: a pattern's words and its restrictor's number
-abbrev pub alone : ℕ → List ℕ → List ℕ
-alone n pattern = 1 ∷ n ∷ 0 ∷ length pattern ∷ pattern
-
 abbrev only-part : ℕ → List ℕ → Part
 only-part n pattern = record { restrictor = n; name = 0; words = pattern }
 

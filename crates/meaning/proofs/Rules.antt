@@ -6,11 +6,14 @@ use Prim.Native.Nat.{ℕ}
 use lib.ListN.{replicate}
 use Rattle.meaning.proofs.Examples.{Example, P, T, computed, lists, low-first, refuses}
 use Rattle.meaning.proofs.Opened.{opened}
+use Rattle.meaning.proofs.QueryOpened.{query-opened}
 use Rattle.meaning.specs.Basics.{Cause, if_then_else_, upFrom}
 use Rattle.meaning.specs.Image.{imageFault, number}
-use Rattle.meaning.specs.Machine.{Turn, plainMachine}
-use Rattle.meaning.specs.Operations.{checkPattern, judgeRecord, readImage}
+use Rattle.meaning.specs.Machine.{Turn}
+use Rattle.meaning.specs.Operations.{readImage}
 use Rattle.meaning.specs.Page.{Lent}
+use Rattle.meaning.specs.QueryListing.{checkQuery, fixedBy, judgeQueryRecord, machineOf}
+use Rattle.meaning.specs.QueryWords.{alone}
 use Rattle.meaning.specs.Record.{Record}
 use Rattle.meaning.specs.Report.{reportBytes, reported, wideEnough}
 
@@ -19,10 +22,10 @@ abbrev labelled-graph : List ℕ
 labelled-graph = low-first (16 ∷ 6 ∷ 22 ∷ 24 ∷ 46 ∷ 12 ∷ 58 ∷ 24 ∷ 10 ∷ 20 ∷ 30 ∷ 0 ∷ 1 ∷ 1 ∷ 1 ∷ 2 ∷ 1 ∷ 0 ∷ 2 ∷ 0 ∷ 1 ∷ 1 ∷ 1 ∷ 0 ∷ 1 ∷ 1 ∷ 2 ∷ 3 ∷ 1 ∷ 0 ∷ 7 ∷ 5 ∷ 1 ∷ 7 ∷ 5 ∷ 2 ∷ 7 ∷ 6 ∷ 4 ∷ 8 ∷ 5 ∷ [])
 
 abbrev lists-case : List ℕ → List ℕ → ℕ → List Record → Example
-lists-case image pattern n records = record { image = image; pattern = pattern; restrictor = n; listing-is = lists records; calls = []; leaves = [] }
+lists-case image pattern n records = record { image = image; query = alone n pattern; listing-is = lists records; calls = []; leaves = [] }
 
 abbrev refuses-case : List ℕ → List ℕ → ℕ → ℕ → ℕ → Example
-refuses-case image pattern n number row = record { image = image; pattern = pattern; restrictor = n; listing-is = refuses number row; calls = []; leaves = [] }
+refuses-case image pattern n number row = record { image = image; query = alone n pattern; listing-is = refuses number row; calls = []; leaves = [] }
 
 abbrev pub rules : List Example
 rules =
@@ -79,7 +82,7 @@ rules =
     ∷ []
 
 pub rules-hold : map computed rules ≡ map (λ x. (x .listing-is, x .leaves)) rules
-unfolding opened
+unfolding query-opened
 rules-hold = refl
 
 -- ------------------------------------------------------------------ images
@@ -138,35 +141,35 @@ numbers-of t = if wideEnough (t .left .report) then map (λ i. reported i (t .le
 
 -- of 28 words the first record leaves 14, into which the third would go but the second does not; then a page of no words, a work area too short,
 -- a report too short, all but one word, and the rest; after done, done again with count 0
-pub pages-hold : map numbers-of (plainMachine cycle two-partings 1 (lent 28 20000 64 ∷ lent 0 20000 64 ∷ lent 40 19999 64 ∷ lent 40 20000 63 ∷ lent 30 20000 64 ∷ lent 61 20003 70 ∷ lent 14 20000 64 ∷ lent 17 20000 64 ∷ lent 0 20000 64 ∷ []))
+pub pages-hold : map numbers-of (machineOf (fixedBy cycle (alone 1 two-partings)) (lent 28 20000 64 ∷ lent 0 20000 64 ∷ lent 40 19999 64 ∷ lent 40 20000 63 ∷ lent 30 20000 64 ∷ lent 61 20003 70 ∷ lent 14 20000 64 ∷ lent 17 20000 64 ∷ lent 0 20000 64 ∷ []))
     ≡ (0 ∷ 0 ∷ 1 ∷ 14 ∷ 0 ∷ 0 ∷ []) ∷ (23 ∷ 0 ∷ 0 ∷ 0 ∷ 0 ∷ 17 ∷ []) ∷ (22 ∷ 0 ∷ 0 ∷ 0 ∷ 0 ∷ 0 ∷ []) ∷ [] ∷ (0 ∷ 0 ∷ 1 ∷ 17 ∷ 0 ∷ 0 ∷ []) ∷ (0 ∷ 0 ∷ 3 ∷ 45 ∷ 0 ∷ 0 ∷ [])
     ∷ (23 ∷ 0 ∷ 0 ∷ 0 ∷ 0 ∷ 17 ∷ []) ∷ (0 ∷ 0 ∷ 1 ∷ 17 ∷ 1 ∷ 0 ∷ []) ∷ (0 ∷ 0 ∷ 0 ∷ 0 ∷ 1 ∷ 0 ∷ []) ∷ []
-unfolding opened
+unfolding query-opened
 pages-hold = refl
 
 -- ------------------------------------------------------------------ the other operations
-pub check-holds : checkPattern P (replicate 50 9) (replicate 66 5) ≡ record { result = 1; types = 4 ∷ 2 ∷ (replicate 46 0 ++ (9 ∷ 9 ∷ [])); report = replicate 64 0 ++ (5 ∷ 5 ∷ []) }
-unfolding opened
+pub check-holds : checkQuery (alone 1 P) (replicate 74 9) (replicate 66 5) ≡ record { result = 1; types = 4 ∷ 2 ∷ (replicate 70 0 ++ (9 ∷ 9 ∷ [])); report = replicate 64 0 ++ (5 ∷ 5 ∷ []) }
+unfolding query-opened
 check-holds = refl
 
-pub check-17 : checkPattern P (replicate 47 9) (replicate 64 5) ≡ record { result = 1; types = replicate 47 9; report = 17 ∷ replicate 63 0 }
-unfolding opened
+pub check-17 : checkQuery (alone 1 P) (replicate 71 9) (replicate 64 5) ≡ record { result = 1; types = replicate 71 9; report = 17 ∷ replicate 63 0 }
+unfolding query-opened
 check-17 = refl
 
-pub check-11 : checkPattern [] (replicate 48 9) (replicate 64 5) ≡ record { result = 1; types = replicate 48 0; report = 11 ∷ replicate 63 0 }
-unfolding opened
+pub check-11 : checkQuery (alone 1 []) (replicate 72 9) (replicate 64 5) ≡ record { result = 1; types = replicate 72 0; report = 11 ∷ replicate 63 0 }
+unfolding query-opened
 check-11 = refl
 
-pub judge-yes : judgeRecord T P 1 (1 ∷ 0 ∷ 0 ∷ 1 ∷ 1 ∷ 1 ∷ 0 ∷ 0 ∷ 1 ∷ 0 ∷ []) (replicate 20001 3) (replicate 64 5) ≡ record { result = 1; work = replicate 20000 0 ++ (3 ∷ []); report = reportBytes 0 0 1 0 0 0 }
-unfolding opened
+pub judge-yes : judgeQueryRecord T (alone 1 P) (1 ∷ 0 ∷ 0 ∷ 1 ∷ 1 ∷ 1 ∷ 0 ∷ 0 ∷ 1 ∷ 0 ∷ []) (replicate 20001 3) (replicate 64 5) ≡ record { result = 1; work = replicate 20000 0 ++ (3 ∷ []); report = reportBytes 0 0 1 0 0 0 }
+unfolding query-opened
 judge-yes = refl
 
-pub judge-no : judgeRecord T P 1 (1 ∷ 0 ∷ 0 ∷ 1 ∷ 1 ∷ 1 ∷ 0 ∷ 0 ∷ 1 ∷ 1 ∷ []) (replicate 20000 3) (replicate 64 5) ≡ record { result = 1; work = replicate 20000 0; report = replicate 64 0 }
-unfolding opened
+pub judge-no : judgeQueryRecord T (alone 1 P) (1 ∷ 0 ∷ 0 ∷ 1 ∷ 1 ∷ 1 ∷ 0 ∷ 0 ∷ 1 ∷ 1 ∷ []) (replicate 20000 3) (replicate 64 5) ≡ record { result = 1; work = replicate 20000 0; report = replicate 64 0 }
+unfolding query-opened
 judge-no = refl
 
-pub judge-22 : judgeRecord T P 1 [] (replicate 19999 3) (replicate 64 5) ≡ record { result = 1; work = replicate 19999 3; report = 22 ∷ replicate 63 0 }
-unfolding opened
+pub judge-22 : judgeQueryRecord T (alone 1 P) [] (replicate 19999 3) (replicate 64 5) ≡ record { result = 1; work = replicate 19999 3; report = 22 ∷ replicate 63 0 }
+unfolding query-opened
 judge-22 = refl
 
 pub read-short : readImage T (replicate 63 5) ≡ record { result = 0; report = replicate 63 5 }

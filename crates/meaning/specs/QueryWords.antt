@@ -29,6 +29,10 @@ unfoldable pub partsOf : List ℕ → List Part
 partsOf [] = []
 partsOf (n ∷ w) = partsFrom n w (drop (3 * n) w)
 
+-- the words of one part without a name, as the base's hosts lend a pattern and its restrictor's number
+abbrev pub alone : ℕ → List ℕ → List ℕ
+alone n pattern = 1 ∷ n ∷ 0 ∷ length pattern ∷ pattern
+
 -- the words that the heads of n parts ask for
 unfoldable pub lengthsOf : ℕ → List ℕ → ℕ
 lengthsOf zero heads = 0
