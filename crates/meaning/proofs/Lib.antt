@@ -56,3 +56,4 @@ pub mod QueryTold
 pub mod QueryShared
 pub mod QueryUntyped
 pub mod QueryAnyAssignment
+pub mod JoinOrder
