@@ -3,8 +3,7 @@ use mathlib.Core.Path.{_∙_, _≡_, ap, fun-ext, refl, sym}
 use mathlib.Core.List.{List, _++_, append-assoc}
 use mathlib.Core.Option.{Option, none, some}
 use mathlib.Core.Logic.{_↔_}
-use Prim.Native.Nat.{ℕ}
-use Rattle.meaning.proofs.Logic.{either, no-none, orElse-some, some-inj}
+use Rattle.meaning.proofs.Logic.{either, orElse-some}
 use Rattle.meaning.proofs.QueryOpened.{query-opened}
 use Rattle.meaning.specs.Assignment.{Unify, _∪_}
 use Rattle.meaning.specs.Basics.{orElse}

@@ -52,6 +52,7 @@ pub mod QuerySize
 pub mod QueryGranted
 pub mod QueryCalls
 pub mod OnePart
+pub mod OnePartRead
 pub mod QueryTold
 pub mod QueryShared
 pub mod QueryUntyped

@@ -1,7 +1,6 @@
 -- Q-1: examples of joins, from raw bytes and words, as one table and one theorem; what the checker says of such queries, and the judge.
 use mathlib.Core.Path.{_≡_, refl}
 use mathlib.Core.List.{List, [], _++_, _∷_, map}
-use mathlib.Core.Option.{none, some}
 use Prim.Native.Nat.{_-_, ℕ}
 use lib.ListN.{length, replicate}
 use Rattle.meaning.proofs.Examples.{Example, T, computed, fills, lists, low-first, page-of, refuses}
@@ -66,6 +65,8 @@ query-examples =
     ∷ refuses-case (3 ∷ 1 ∷ 0 ∷ 5 ∷ 1 ∷ 0 ∷ 15 ∷ 1 ∷ 0 ∷ 5 ∷ 2 ∷ 1 ∷ 0 ∷ 0 ∷ 0 ∷ 1 ∷ 2 ∷ 0 ∷ 0 ∷ 0 ∷ 2 ∷ 2 ∷ 0 ∷ 0 ∷ 0 ∷ 6 ∷ 0 ∷ 1 ∷ 0 ∷ 0 ∷ 1 ∷ 1 ∷ 0 ∷ 0 ∷ 0 ∷ []) 16 2
     -- 32 before 11: name 9 twice, and both patterns without words
     ∷ refuses-case (2 ∷ 1 ∷ 9 ∷ 0 ∷ 1 ∷ 9 ∷ 0 ∷ []) 32 0
+    -- 31 before 32: name 9 twice, and a word too many
+    ∷ refuses-case (2 ∷ 1 ∷ 9 ∷ 0 ∷ 1 ∷ 9 ∷ 0 ∷ 0 ∷ []) 31 0
     -- five parts
     ∷ refuses-case (5 ∷ 1 ∷ 0 ∷ 5 ∷ 1 ∷ 0 ∷ 5 ∷ 1 ∷ 0 ∷ 5 ∷ 1 ∷ 0 ∷ 5 ∷ 1 ∷ 0 ∷ 5 ∷ 4 ∷ 0 ∷ 0 ∷ 0 ∷ 0 ∷ 4 ∷ 0 ∷ 0 ∷ 0 ∷ 0 ∷ 4 ∷ 0 ∷ 0 ∷ 0 ∷ 0 ∷ 4 ∷ 0 ∷ 0 ∷ 0 ∷ 0 ∷ 4 ∷ 0 ∷ 0 ∷ 0 ∷ 0 ∷ []) 31 0
     -- one word too many

@@ -241,6 +241,10 @@ unfolding query-opened
 unless-all P none l h k = k refl
 unless-all P (some a) l h k = h
 
+pub query-refused-empty : (image query : List ℕ) (c : ℕ × ℕ) → queryFixedFault image query ≡ some c → queryFullListing image query ≡ []
+unfolding query-opened
+query-refused-empty image query c e = rw e refl
+
 pub query-full-sorted : (image query : List ℕ) → Sorted (queryFullListing image query)
 unfolding query-opened
 query-full-sorted image query = unless-all Sorted (queryFixedFault image query) (queryListing (graphOf image) (queryIn query)) tt (λ e. query-listing-sorted (graphOf image) (queryIn query))

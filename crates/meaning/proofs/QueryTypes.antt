@@ -36,9 +36,6 @@ pub no-element : {A : Type 0} {f : Found} → path ≡ element f → A
 unfolding isPath
 no-element e = no-true (ap isPath e)
 
-no-typed : {A : Type 0} {τ : Ty} → absent ≡ typed τ → A
-no-typed e = let z : _≡_ {A = ℕ} 0 1 = cc in absurd (omega arith)
-
 no-clash : {A : Type 0} {τ : Ty} → clash ≡ typed τ → A
 no-clash e = let z : _≡_ {A = ℕ} 0 1 = cc in absurd (omega arith)
 

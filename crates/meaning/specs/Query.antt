@@ -1,4 +1,4 @@
--- 000, Figure 1: queries; and the rules of Figure 2 for them (Q-1).
+-- 000, Figure 1: queries; and the rules of Figure 2 for them. 02, Q-1 lists their answers.
 use mathlib.Core.Path.{_≡_}
 use mathlib.Core.List.{List, _∷_, _++_}
 use mathlib.Core.Bool.{Bool, true, false, _||_}

@@ -1,4 +1,4 @@
--- Q-1, the words of a query: its parts, refusals 31, 32 and 33 beside those of the parts, the query of accepted words, its types in words.
+-- 02, Q-1, 'It is lent as words': the parts of a query's words, refusals 31, 32 and 33 beside those of the parts, the query of accepted words, its types in words.
 use mathlib.Core.List.{List, [], _∷_}
 use mathlib.Core.Option.{none}
 use mathlib.Core.Bool.{Bool, true, false, not, _&&_, _||_}
