@@ -3,6 +3,8 @@
 A declaration of Antt is used if the code or its proofs lead to it: from the contracts in the sources, from each function's proof, from
 the examples, and from each result that docs/THEOREMS.md quotes, through every declaration that names another. A function, a struct or
 a constant of Rattle is used if something outside it names it, an exported one if C can call it. What nothing leads to is printed.
+A crate that neither the archive nor a program stands on yet is groundwork: what it makes public counts as used, and so does what stands
+in the theory that only groundwork cites.
 """
 
 import os
@@ -15,6 +17,23 @@ OURS = re.compile(r"(?s)(?:pub |ghost )?use Rattle·(\w+)(?:·\w+)?\.(specs|proo
 SIGNATURE = re.compile(r"^( *)(?:unfoldable |abbrev )*(pub )?(?:data |record )?(\S+)")
 ITEM = re.compile(r"(?m)^( *)pub (?:extern \"C\" )?(?:fn|struct|enum|const) (\w+)")
 EXAMPLES = ("Examples", "QueryExamples", "Rules")
+TOPS = ("gpc", "listing", "examples")
+
+
+def groundwork():
+    """The crates that no archive and no program stands on."""
+    needs = {}
+    for line in open(os.path.join(ROOT, "crates.txt")):
+        name, found, rest = line.split("#")[0].partition(":")
+        if found:
+            needs[name.strip()] = rest.split()
+    used, queue = set(), list(TOPS)
+    while queue:
+        name = queue.pop()
+        if name not in used:
+            used.add(name)
+            queue += needs.get(name, [])
+    return set(needs) - used
 
 
 def files(ending):
@@ -122,9 +141,11 @@ class Tree:
                     self.reach(self.origin((*where, used)))
 
     def roots(self, quoted):
+        early = groundwork()
         for key, file in self.files.items():
             whole = key[2].split(".")[-1] in ("Proof", *EXAMPLES) or key[2].startswith("declared.")
-            self.reach((key, n) for n in file.declared if whole or n == "module" or n in quoted)
+            shown = file.public if key[0] in early else ()
+            self.reach((key, n) for n in file.declared if whole or n == "module" or n in quoted or n in shown)
         for path in files(".rt"):
             for use in re.findall(r"(?s)ghost use .*?;", open(path).read()):
                 ours = OURS.match(use.rstrip(";"))
@@ -149,7 +170,10 @@ def unused_antt(quoted):
 def unused_rattle():
     text = {path: re.sub(r"//.*", "", open(path).read()) for path in files(".rt")}
     uses = {path: re.sub(r"(?m)^(?:pub )?use .*;$", "", source) for path, source in text.items()}
+    early = groundwork()
     for path, source in text.items():
+        if os.path.relpath(path, ROOT).split(os.sep)[1] in early:
+            continue
         exported = {name for _, name in re.findall(r"(?m)^( *)pub extern \"C\" fn (\w+)", source)}
         for _, name in ITEM.findall(source):
             count = sum(len(re.findall(r"\b" + name + r"\b", s)) for s in uses.values())
