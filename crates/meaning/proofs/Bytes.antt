@@ -1,27 +1,21 @@
--- The report's bytes tell its numbers, so demand 3 holds as well for a host that reads the count off the 64 bytes.
-use mathlib.Core.Path.{_∙_, _≡_, ap, refl}
-use mathlib.Core.List.{List, [], _++_, _∷_, map}
+-- The report's bytes tell its numbers, and a page has no more records than words.
+use mathlib.Core.Path.{_≡_, refl}
+use mathlib.Core.List.{List, [], _++_, _∷_}
 use mathlib.Core.Option.{none, some}
 use mathlib.Core.Bool.{Bool, false, true}
 use Prim.Native.Nat.{_-_, _/_, _<_, _^_, _≤_, suc, zero, ℕ}
 use native.Mathlib.Omega.{arith}
 use lib.Dec.{leb, ltb}
-use lib.ListN.{drop, length, length-append}
+use lib.ListN.{length, length-append}
 use borrow.Author.Tests.{leb-true}
-use Rattle.meaning.proofs.Calls.{all-left, demand-3}
-use Rattle.meaning.proofs.Granted.{full-not-empty}
 use Rattle.meaning.proofs.Logic.{no-false}
 use Rattle.meaning.proofs.Opened.{opened}
-use Rattle.meaning.proofs.Pages.{outcome-begins, printedRecords}
+use Rattle.meaning.proofs.Pages.{printedRecords}
 use Rattle.meaning.specs.Basics.{All, Cause, firstOf, if_then_else_, keep, only, rowless}
-use Rattle.meaning.specs.FullListing.{fixedFault, fullListing}
-use Rattle.meaning.specs.Listing.{Before, before}
-use Rattle.meaning.specs.Machine.{fillPage, hostCalls, hostRun, lastOr, pageRecords, plainMachine, shownRecords}
-use Rattle.meaning.specs.Page.{Left, Lent, Outcome, after, filled, fit, join, left, needs, outcome, printed, printing, refused, unanswered, unlessFault}
-use Rattle.meaning.specs.Record.{Record, recordsIn}
-use Rattle.meaning.specs.Report.{bit, digits, reportBytes, reported, undigits, wideEnough}
-use Rattle.meaning.specs.Table.{patternOf}
-use Rattle.meaning.specs.Typing.{Found, typeOf}
+use Rattle.meaning.specs.Listing.{Before}
+use Rattle.meaning.specs.Page.{Lent, Outcome, filled, fit, join, needs, outcome, printing, unanswered, unlessFault}
+use Rattle.meaning.specs.Record.{Record}
+use Rattle.meaning.specs.Report.{digits, reportBytes, reported, undigits, wideEnough}
 
 pub digits-read : (n x : ℕ) → x < 256 ^ n → undigits (digits n x) ≡ x
 unfolding opened printedRecords
@@ -78,14 +72,6 @@ outcome-words fault c rest = go (wideEnough (c .report))
     go true = unless (firstOf fault (rowless 22 (ltb (length (c .work)) 20000)))
     go false = omega arith
 
--- ------------------------------------------------------------------ what C hands over shows the same records
-shown-is : (types : ℕ → Found) (c : Lent) (o : Outcome) → length (printedRecords o) < 256 ^ 8 → shownRecords types (left c o) ≡ pageRecords types (record { outcome = o; left = left c o })
-unfolding opened printedRecords
-shown-is types c unanswered h = refl
-shown-is types c (refused f) h = refl
-shown-is types c (needs n) h = refl
-shown-is types c (printed rs done) h = ap (λ (k : ℕ). recordsIn types k (join rs ++ drop (length (join rs)) (c .page))) (reported-count 0 0 (length rs) (length (join rs)) (bit done) 0 (drop 64 (c .report)) h)
-
 pub all-keep : (P : Record → Type 0) (f : Record → Bool) (l : List Record) → All P l → All P (keep f l)
 unfolding opened printedRecords
 all-keep P f [] a = tt
@@ -94,28 +80,3 @@ all-keep P f (x ∷ xs) a = go (f x) (all-keep P f xs (a .1))
     go : (b : Bool) → All P (keep f xs) → All P (only b x ++ keep f xs)
     go true i = (a .0, i)
     go false i = i
-
-module _ (image pattern : List ℕ) (n : ℕ) where
-  few-records : (c : Lent) (bookmark : List ℕ) → length (c .page) < 256 ^ 8 → length (printedRecords (fillPage image pattern n bookmark c .outcome)) < 256 ^ 8
-  unfolding opened printedRecords
-  few-records c bookmark h =
-      let rest : List Record = after bookmark (fullListing image pattern n) in
-      let o : Outcome = outcome (fixedFault image pattern n) c rest in
-      let full : All (Before []) rest = all-keep (Before []) (before bookmark) (fullListing image pattern n) (full-not-empty image pattern n) in
-      let part : All (Before []) (printedRecords o ++ drop (length (printedRecords o)) rest) = rw (outcome-begins (fixedFault image pattern n) c rest) full in
-      let k = count-words (printedRecords o) (all-left (Before []) (printedRecords o) (drop (length (printedRecords o)) rest) part) in
-      omega (arith, h, k, outcome-words (fixedFault image pattern n) c rest)
-
-  calls-are : (cs : List Lent) → All (λ c. length (c .page) < 256 ^ 8) cs → (bookmark : List ℕ) → hostCalls image pattern n bookmark cs ≡ map (λ t. t .left) (hostRun image pattern n bookmark cs)
-  unfolding opened printedRecords
-  calls-are [] h bookmark = refl
-  calls-are (c ∷ cs) h bookmark =
-      let types : ℕ → Found = typeOf (patternOf pattern) in
-      let o : Outcome = fillPage image pattern n bookmark c .outcome in
-      let s : shownRecords types (left c o) ≡ pageRecords types (record { outcome = o; left = left c o }) = shown-is types c o (few-records c bookmark (h .0)) in
-      ap (λ (l : List Left). left c o ∷ l) (ap (λ (rs : List Record). hostCalls image pattern n (lastOr bookmark rs) cs) s ∙ calls-are cs (h .1) (lastOr bookmark (pageRecords types (record { outcome = o; left = left c o }))))
-
-  -- pages of under 2⁶⁴ words, as all are: the calls of a host that has only what C hands it are the plain machine's
-  pub demand-3-bytes : (calls : List Lent) → All (λ c. length (c .page) < 256 ^ 8) calls → hostCalls image pattern n [] calls ≡ map (λ t. t .left) (plainMachine image pattern n calls)
-  unfolding opened printedRecords
-  demand-3-bytes calls h = calls-are calls h [] ∙ ap (map (λ t. t .left)) (demand-3 image pattern n calls)

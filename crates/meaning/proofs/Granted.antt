@@ -1,6 +1,6 @@
 -- The full listing over bytes and words: what nothing refuses is a graph and a pattern, and what then holds of every record.
 use mathlib.Core.Path.{_∙_, _≡_, ap, refl, sym}
-use mathlib.Core.List.{List, Memᴰ·of-map, [], _++_, _∷_, append-nil, map}
+use mathlib.Core.List.{List, [], _++_, _∷_, append-nil}
 use mathlib.Core.Option.{none, some}
 use mathlib.Core.Bool.{_&&_, false, not}
 use mathlib.Core.Logic.{_↔_}
@@ -20,15 +20,13 @@ use Rattle.meaning.proofs.Paths.{short}
 use Rattle.meaning.proofs.Reading.{Readable}
 use Rattle.meaning.proofs.SameRecord.{answer-readable, one-way, same-answer}
 use Rattle.meaning.proofs.Size.{record-size}
-use Rattle.meaning.proofs.Sorting.{sort→}
-use Rattle.meaning.specs.Answer.{Answer, Base, Restrictor, answers, longest, restrictorOf, simple, trail}
+use Rattle.meaning.specs.Answer.{Answer, Base, longest, restrictorOf, simple, trail}
 use Rattle.meaning.specs.Assignment.{Assignment}
 use Rattle.meaning.specs.Basics.{All, Cause, _∈_, firstOf, upFrom, rowless}
 use Rattle.meaning.specs.FullListing.{fixedFault, fullListing, unlessRefused}
-use Rattle.meaning.specs.Graph.{Graph, Walk, len}
+use Rattle.meaning.specs.Graph.{Walk, len}
 use Rattle.meaning.specs.Image.{edgeCount, edgeRow, graphOf, imageFault}
-use Rattle.meaning.specs.Listing.{Before, Listed, Sorted, answerRecord, listing}
-use Rattle.meaning.specs.Pattern.{Pattern}
+use Rattle.meaning.specs.Listing.{Listed, Sorted, listing}
 use Rattle.meaning.specs.Record.{Record, recordOf}
 use Rattle.meaning.specs.Table.{badLength, patternFault, patternOf, rowsOf, tableFault}
 use Rattle.meaning.specs.Typing.{typeOf}
@@ -163,16 +161,6 @@ full-sorted image pattern n = unless-all Sorted (fixedFault image pattern n) (li
 pub refused-empty : (image pattern : List ℕ) (n : ℕ) (c : ℕ × ℕ) → fixedFault image pattern n ≡ some c → fullListing image pattern n ≡ []
 unfolding opened
 refused-empty image pattern n c e = ap (λ (x : Cause). unlessRefused x (listing (graphOf image) (restrictorOf n) (patternOf pattern))) e
-
-not-empty : (G : Graph) (ρ : Restrictor) (π : Pattern) → All (Before []) (listing G ρ π)
-unfolding opened
-not-empty G ρ π = all-of (Before []) (listing G ρ π) (λ r m.
-    let w = Memᴰ·of-map answerRecord (answers G ρ π) (sort→ (map answerRecord (answers G ρ π)) m) in
-    rw (← w .2) refl)
-
-pub full-not-empty : (image pattern : List ℕ) (n : ℕ) → All (Before []) (fullListing image pattern n)
-unfolding opened
-full-not-empty image pattern n = unless-all (All (Before [])) (fixedFault image pattern n) (listing (graphOf image) (restrictorOf n) (patternOf pattern)) tt (λ e. not-empty (graphOf image) (restrictorOf n) (patternOf pattern))
 
 pub full-readable : (image pattern : List ℕ) (n : ℕ) → All (Readable (typeOf (patternOf pattern))) (fullListing image pattern n)
 unfolding opened

@@ -38,7 +38,7 @@ pub mod Reading
 pub mod SameRecord
 pub mod Granted
 pub mod Pages
-pub mod Calls
+pub mod Beginnings
 pub mod Bytes
 pub mod Judged
 pub mod AnyAssignment
@@ -50,7 +50,7 @@ pub mod QueryExamples
 pub mod QueryReading
 pub mod QuerySize
 pub mod QueryGranted
-pub mod QueryCalls
+pub mod Calls
 pub mod OnePart
 pub mod OnePartRead
 pub mod QueryTold

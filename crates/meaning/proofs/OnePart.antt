@@ -27,11 +27,10 @@ use Rattle.meaning.specs.Image.{graphOf, imageFault}
 use Rattle.meaning.specs.Joins.{lifted, plainly}
 use Rattle.meaning.specs.Listing.{Listed}
 use Rattle.meaning.specs.Machine.{plainRun}
-use Rattle.meaning.specs.Operations.{fillPageLeft}
 use Rattle.meaning.specs.Page.{Lent, after, left, outcome}
 use Rattle.meaning.specs.Pattern.{Pattern, inVar}
 use Rattle.meaning.specs.Query.{unnamed}
-use Rattle.meaning.specs.QueryListing.{fillQueryPage, fixedBy, judgeQuery, machineOf, queryFixedFault, queryFullListing, queryIn}
+use Rattle.meaning.specs.QueryListing.{fillPage, fixedBy, judgeQuery, machineOf, queryFixedFault, queryFullListing, queryIn}
 use Rattle.meaning.specs.QueryRecord.{QueryListed, queryRecordOf, querySlotWords, queryVariableWords, twelve}
 use Rattle.meaning.specs.QueryWords.{Part, alone, badLayout, badRestrictor, partsOf, queryFault, queryUntyped}
 use Rattle.meaning.specs.Record.{Record, pathWords, recordOf, slotWords, variableWords}
@@ -149,7 +148,7 @@ module _ (query : List ℕ) (a : Part) (alone : Alone query a) where
     unfolding query-opened
     one-judge r = ap (isOneOf r) one-listing
 
-    pub one-page : (bookmark : List ℕ) (c : Lent) → fillQueryPage image query bookmark c ≡ fillPageLeft image (a .words) (a .restrictor) bookmark c
+    pub one-page : (bookmark : List ℕ) (c : Lent) → fillPage image query bookmark c ≡ left c (outcome (fixedFault image (a .words) (a .restrictor)) c (after bookmark (fullListing image (a .words) (a .restrictor))))
     unfolding query-opened
     one-page bookmark c = ap₂ (λ (f : Cause) (l : List Record). left c (outcome f c (after bookmark l))) one-fault one-listing
 

@@ -1,16 +1,17 @@
 -- One part without a name: its types are the base's 48 words and 24 zeros, and its records are read off words as the base's are.
 use mathlib.Core.Path.{_∙_, _≡_, ap, refl, sym}
-use mathlib.Core.List.{List, [], _++_, _∷_, append-assoc}
+use mathlib.Core.List.{List, [], _++_, _∷_}
 use mathlib.Core.Bool.{false}
 use Prim.Native.Nat.{_+_, suc, zero, ℕ}
 use native.Mathlib.Omega.{arith}
 use lib.ListN.{drop, replicate, take}
 use Rattle.meaning.proofs.Accepted.{Accepted}
+use Rattle.meaning.proofs.Lists.{each-append}
 use Rattle.meaning.proofs.Logic.{is-false, no-true}
 use Rattle.meaning.proofs.QueryOpened.{query-opened}
 use Rattle.meaning.proofs.Unused.{unused→absent}
 use Rattle.meaning.specs.Answer.{Restrictor}
-use Rattle.meaning.specs.Basics.{All, each, eight}
+use Rattle.meaning.specs.Basics.{All, eight}
 use Rattle.meaning.specs.Pattern.{Pattern, inVar}
 use Rattle.meaning.specs.Query.{queryTypeOf, unnamed}
 use Rattle.meaning.specs.QueryListing.{recordsBy}
@@ -19,11 +20,6 @@ use Rattle.meaning.specs.QueryWords.{queryTypeWords}
 use Rattle.meaning.specs.Record.{Record, pathSize, recordSize, recordsIn, slotSize, variablesSize}
 use Rattle.meaning.specs.Table.{foundWords, isVariable, padded, typeWords}
 use Rattle.meaning.specs.Typing.{absent, typeOf}
-
-each-append : (f : ℕ → List ℕ) (xs ys : List ℕ) → each (xs ++ ys) f ≡ each xs f ++ each ys f
-unfolding query-opened
-each-append f [] ys = refl
-each-append f (x ∷ xs) ys = ap (λ (l : List ℕ). f x ++ l) (each-append f xs ys) ∙ sym (append-assoc (f x) (each xs f) (each ys f))
 
 abbrev names : List ℕ
 names = 9 ∷ 10 ∷ 11 ∷ 12 ∷ []

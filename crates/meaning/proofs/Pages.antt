@@ -1,4 +1,4 @@
--- What one call prints: the beginning of the answers that are left, all of them if it says done; and its page shows it.
+-- What one call prints: the beginning of the answers that are left, all of them if it says done.
 use mathlib.Core.Path.{_∙_, _≡_, ap, refl, sym}
 use mathlib.Core.List.{List, [], _++_, _∷_, append-nil}
 use mathlib.Core.Option.{none, some}
@@ -8,13 +8,11 @@ use lib.Dec.{leb, ltb}
 use lib.ListN.{drop, length}
 use Rattle.meaning.proofs.Logic.{no-false}
 use Rattle.meaning.proofs.Opened.{opened}
-use Rattle.meaning.proofs.Reading.{Readable, records-read}
-use Rattle.meaning.specs.Basics.{All, Cause, firstOf, if_then_else_, rowless}
-use Rattle.meaning.specs.Machine.{isDone, pageRecords, printedCount}
-use Rattle.meaning.specs.Page.{Lent, Outcome, filled, fit, isEmpty, join, left, needs, outcome, printed, printing, refused, unanswered, unlessFault}
+use Rattle.meaning.specs.Basics.{Cause, firstOf, if_then_else_, rowless}
+use Rattle.meaning.specs.Machine.{isDone, printedCount}
+use Rattle.meaning.specs.Page.{Lent, Outcome, filled, fit, isEmpty, needs, outcome, printed, printing, refused, unanswered, unlessFault}
 use Rattle.meaning.specs.Record.{Record}
 use Rattle.meaning.specs.Report.{wideEnough}
-use Rattle.meaning.specs.Typing.{Found}
 
 unfoldable pub printedRecords : Outcome → List Record
 printedRecords unanswered = []
@@ -97,11 +95,3 @@ outcome-done fault c rest = go (wideEnough (c .report))
     go : (b : Bool) → All-if-done (if b then unlessFault (firstOf fault (rowless 22 (ltb (length (c .work)) 20000))) (filled (length (c .page)) rest) else unanswered) rest
     go true = unless-done (firstOf fault (rowless 22 (ltb (length (c .work)) 20000))) (length (c .page)) rest
     go false = λ e. no-false e
-
--- ------------------------------------------------------------------ what the page shows
-pub page-shows : (f : ℕ → Found) (c : Lent) (o : Outcome) → All (Readable f) (printedRecords o) → pageRecords f (record { outcome = o; left = left c o }) ≡ printedRecords o
-unfolding opened printedRecords
-page-shows f c unanswered h = refl
-page-shows f c (refused x) h = refl
-page-shows f c (needs n) h = refl
-page-shows f c (printed rs done) h = records-read f rs h (drop (length (join rs)) (c .page))

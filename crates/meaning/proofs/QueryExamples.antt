@@ -7,7 +7,7 @@ use Rattle.meaning.proofs.Examples.{Example, T, computed, fills, lists,
 use Rattle.meaning.proofs.QueryOpened.{query-opened}
 use Rattle.meaning.specs.Operations.{CheckLeft}
 use Rattle.meaning.specs.Page.{join}
-use Rattle.meaning.specs.QueryListing.{checkQuery, judgeQueryRecord}
+use Rattle.meaning.specs.QueryListing.{checkQuery, judgeRecord}
 use Rattle.meaning.specs.Record.{Record}
 use Rattle.meaning.specs.Report.{reportBytes}
 
@@ -158,10 +158,10 @@ check-16 = refl
 
 -- ------------------------------------------------------------------ the judge
 -- the record of the shared node; not with the paths the other way round
-pub judge-join : judgeQueryRecord T shared-node (1 ∷ 0 ∷ 0 ∷ 1 ∷ 1 ∷ 2 ∷ 2 ∷ 0 ∷ 0 ∷ []) (replicate 20000 3) (replicate 64 5) ≡ record { result = 1; work = replicate 20000 0; report = reportBytes 0 0 1 0 0 0 }
+pub judge-join : judgeRecord T shared-node (1 ∷ 0 ∷ 0 ∷ 1 ∷ 1 ∷ 2 ∷ 2 ∷ 0 ∷ 0 ∷ []) (replicate 20000 3) (replicate 64 5) ≡ record { result = 1; work = replicate 20000 0; report = reportBytes 0 0 1 0 0 0 }
 unfolding query-opened
 judge-join = refl
 
-pub judge-swapped : judgeQueryRecord T shared-node (1 ∷ 2 ∷ 2 ∷ 0 ∷ 1 ∷ 0 ∷ 0 ∷ 1 ∷ 0 ∷ []) (replicate 20000 3) (replicate 64 5) ≡ record { result = 1; work = replicate 20000 0; report = replicate 64 0 }
+pub judge-swapped : judgeRecord T shared-node (1 ∷ 2 ∷ 2 ∷ 0 ∷ 1 ∷ 0 ∷ 0 ∷ 1 ∷ 0 ∷ []) (replicate 20000 3) (replicate 64 5) ≡ record { result = 1; work = replicate 20000 0; report = replicate 64 0 }
 unfolding query-opened
 judge-swapped = refl

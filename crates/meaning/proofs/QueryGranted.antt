@@ -45,7 +45,7 @@ pub record QueryGranted (image query : List ℕ) : Type 0 where
   pub no-clash : (x : ℕ) → queryTypeOf (queryIn query) x ≢ element clash
 
 -- ------------------------------------------------------------------ how many parts
-length-parts : (n : ℕ) (heads patterns : List ℕ) → length (partsFrom n heads patterns) ≡ n
+pub length-parts : (n : ℕ) (heads patterns : List ℕ) → length (partsFrom n heads patterns) ≡ n
 unfolding query-opened
 length-parts zero heads patterns = refl
 length-parts (suc n) heads patterns = ap suc (length-parts n (drop 3 heads) (drop (getD heads 2 0) patterns))

@@ -4,8 +4,8 @@ use Rattle.meaning.specs.Query.{inQuery, queryVars, width, namingTy, joi
 use Rattle.meaning.specs.Joins.{QueryValue-dec, plainly, lifted, bindPath, QueryMeaning, sameValue, queryUnifies, restrictedAnswer, namedAnswer, joinOf, queryAnswers}
 use Rattle.meaning.specs.QueryRecord.{twelve, queryValueWords, querySlotWords, queryVariableWords, queryRecordOf, queryAnswerRecord, queryListing, pathsSize, querySlotSize, queryVariablesSize, queryRecordSize}
 use Rattle.meaning.specs.QueryWords.{partsFrom, partsOf, lengthsOf, badLayout, isName, nameUsed, badNames, partsFault, partQuery, queryOf, isQueryClash, queryUntyped, queryFault, badRestrictor, queryFoundWords, queryTypeWords}
-use Rattle.meaning.specs.QueryListing.{recordsBy, queryIn, queryFixedFault, queryFullListing, fixedBy, judgeQuery, machineOf, pageOf, recordsOn, hostOf, recordsShown, hostCallsOf, untilDone, queryTypesOrZeros, checkQuery, judgeQueryRecord, fillQueryPage}
+use Rattle.meaning.specs.QueryListing.{recordsBy, queryIn, queryFixedFault, queryFullListing, fixedBy, judgeQuery, machineOf, pageOf, recordsOn, hostOf, recordsShown, hostCallsOf, untilDone, typesOrZeros, checkQuery, judgeRecord, fillPage}
 
 unfoldable pub query-opened : Unit {0}
-unfolding opened inQuery queryVars width namingTy joiningTy queryTypeOf foundTy QueryValue-dec plainly lifted bindPath QueryMeaning sameValue queryUnifies restrictedAnswer namedAnswer joinOf queryAnswers twelve queryValueWords querySlotWords queryVariableWords queryRecordOf queryAnswerRecord queryListing pathsSize querySlotSize queryVariablesSize queryRecordSize partsFrom partsOf lengthsOf badLayout isName nameUsed badNames partsFault partQuery queryOf isQueryClash queryUntyped queryFault badRestrictor queryFoundWords queryTypeWords recordsBy queryIn queryFixedFault queryFullListing fixedBy judgeQuery machineOf pageOf recordsOn hostOf recordsShown hostCallsOf untilDone queryTypesOrZeros checkQuery judgeQueryRecord fillQueryPage
+unfolding opened inQuery queryVars width namingTy joiningTy queryTypeOf foundTy QueryValue-dec plainly lifted bindPath QueryMeaning sameValue queryUnifies restrictedAnswer namedAnswer joinOf queryAnswers twelve queryValueWords querySlotWords queryVariableWords queryRecordOf queryAnswerRecord queryListing pathsSize querySlotSize queryVariablesSize queryRecordSize partsFrom partsOf lengthsOf badLayout isName nameUsed badNames partsFault partQuery queryOf isQueryClash queryUntyped queryFault badRestrictor queryFoundWords queryTypeWords recordsBy queryIn queryFixedFault queryFullListing fixedBy judgeQuery machineOf pageOf recordsOn hostOf recordsShown hostCallsOf untilDone typesOrZeros checkQuery judgeRecord fillPage
 query-opened = tt

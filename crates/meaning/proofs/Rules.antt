@@ -12,7 +12,7 @@ use Rattle.meaning.specs.Image.{imageFault, number}
 use Rattle.meaning.specs.Machine.{Turn}
 use Rattle.meaning.specs.Operations.{readImage}
 use Rattle.meaning.specs.Page.{Lent}
-use Rattle.meaning.specs.QueryListing.{checkQuery, fixedBy, judgeQueryRecord, machineOf}
+use Rattle.meaning.specs.QueryListing.{checkQuery, fixedBy, judgeRecord, machineOf}
 use Rattle.meaning.specs.QueryWords.{alone}
 use Rattle.meaning.specs.Record.{Record}
 use Rattle.meaning.specs.Report.{reportBytes, reported, wideEnough}
@@ -160,15 +160,15 @@ pub check-11 : checkQuery (alone 1 []) (replicate 72 9) (replicate 64 5) ≡ rec
 unfolding query-opened
 check-11 = refl
 
-pub judge-yes : judgeQueryRecord T (alone 1 P) (1 ∷ 0 ∷ 0 ∷ 1 ∷ 1 ∷ 1 ∷ 0 ∷ 0 ∷ 1 ∷ 0 ∷ []) (replicate 20001 3) (replicate 64 5) ≡ record { result = 1; work = replicate 20000 0 ++ (3 ∷ []); report = reportBytes 0 0 1 0 0 0 }
+pub judge-yes : judgeRecord T (alone 1 P) (1 ∷ 0 ∷ 0 ∷ 1 ∷ 1 ∷ 1 ∷ 0 ∷ 0 ∷ 1 ∷ 0 ∷ []) (replicate 20001 3) (replicate 64 5) ≡ record { result = 1; work = replicate 20000 0 ++ (3 ∷ []); report = reportBytes 0 0 1 0 0 0 }
 unfolding query-opened
 judge-yes = refl
 
-pub judge-no : judgeQueryRecord T (alone 1 P) (1 ∷ 0 ∷ 0 ∷ 1 ∷ 1 ∷ 1 ∷ 0 ∷ 0 ∷ 1 ∷ 1 ∷ []) (replicate 20000 3) (replicate 64 5) ≡ record { result = 1; work = replicate 20000 0; report = replicate 64 0 }
+pub judge-no : judgeRecord T (alone 1 P) (1 ∷ 0 ∷ 0 ∷ 1 ∷ 1 ∷ 1 ∷ 0 ∷ 0 ∷ 1 ∷ 1 ∷ []) (replicate 20000 3) (replicate 64 5) ≡ record { result = 1; work = replicate 20000 0; report = replicate 64 0 }
 unfolding query-opened
 judge-no = refl
 
-pub judge-22 : judgeQueryRecord T (alone 1 P) [] (replicate 19999 3) (replicate 64 5) ≡ record { result = 1; work = replicate 19999 3; report = 22 ∷ replicate 63 0 }
+pub judge-22 : judgeRecord T (alone 1 P) [] (replicate 19999 3) (replicate 64 5) ≡ record { result = 1; work = replicate 19999 3; report = 22 ∷ replicate 63 0 }
 unfolding query-opened
 judge-22 = refl
 
