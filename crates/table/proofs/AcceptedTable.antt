@@ -1,28 +1,25 @@
 -- What an accepted table grants: every row may be gone into and typed, and no variable clashes.
-use mathlib.Core.Path.{_≡_, refl, sym, ap, _∙_}
+use mathlib.Core.Path.{_≡_}
 use mathlib.Core.List.{List}
-use mathlib.Core.Option.{none, some}
-use mathlib.Core.Bool.{Bool, false, not, _||_}
-use Prim.Native.Nat.{ℕ, _+_, _-_, _*_, _/_, _%_, _<_, _≤_}
+use mathlib.Core.Option.{none}
+use mathlib.Core.Bool.{not, _||_}
+use Prim.Native.Nat.{ℕ, _+_, _*_, _%_, _<_, _≤_}
 use native.Mathlib.Omega.{arith}
 use lib.Dec.{eqb, ltb}
 use lib.ListN.{length}
 use borrow.Author.Tests.{eqb-true, eqb-false}
 use Rattle.meaning.specs.Basics.{Cause, firstOf, rowless}
-use Rattle.meaning.specs.Typing.{clash, typeOf}
-use Rattle.meaning.specs.Table.{rowsOf, itemAt, asPattern, fault12, fault13, fault14, fault15, fault16, rowCause, tableFault, tablePattern, patternFault, patternOf, badLength}
-use Rattle.meaning.proofs.Logic.{no-true, not-false, or-false-l, or-false-r}
+use Rattle.meaning.specs.Typing.{typeOf}
+use Rattle.meaning.specs.Table.{rowsOf, itemAt, asPattern, fault12, fault13, fault14, fault15, fault16, rowCause, tableFault, patternFault, patternOf, badLength}
+use Rattle.meaning.proofs.Logic.{not-false, or-false-l, or-false-r}
 use Rattle.meaning.proofs.Causes.{first-none, whole-none}
 use Rattle.meaning.proofs.Accepted.{clear, table-accepted}
 use Rattle.meaning.proofs.Accepted.{Accepted as AcceptedPattern}
 use Rattle.rows.specs.Faults.{Formed, Stands}
 use Rattle.table.specs.Typing.{plainAt}
-use Rattle.table.specs.Verdict.{causeOf}
-use Rattle.table.specs.TypeArea.{Checked}
-use Rattle.table.specs.declared.causes.Verdict.{Verdict}
-use Rattle.words.specs.Fault.{isRefused}
+use Rattle.table.specs.Ready.{Checked}
 use Rattle.rows.proofs.Rows.{formed-by, in-rows, rows-length}
-use Rattle.table.proofs.TypedRows.{plain-typed, row-no-clash}
+use Rattle.table.proofs.TypedRows.{plain-typed}
 use Rattle.table.proofs.FirstFault.{shallow-by}
 
 module _ (pattern : List ℕ) (e : patternFault pattern ≡ none) where
@@ -60,22 +57,6 @@ module _ (pattern : List ℕ) (e : patternFault pattern ≡ none) where
   plain-in : (i : ℕ) → i < length (rowsOf pattern) → (y : ℕ) → plainAt pattern i y ≡ typeOf (asPattern (itemAt (rowsOf pattern) i)) y
   plain-in i k = plain-typed pattern (formed .ok) i k (λ j l. clear (rowsOf pattern) 16 (fault16 (rowsOf pattern)) (row-causes .1 .1) j (omega arith))
 
-  root-is : length pattern / 5 - 1 ≡ length (rowsOf pattern) - 1
-  root-is = omega (arith, rows-length pattern)
-
-  pub plain-root : (y : ℕ) → plainAt pattern (length pattern / 5 - 1) y ≡ typeOf (patternOf pattern) y
-  unfolding patternOf tablePattern
-  plain-root y =
-      let k : length (rowsOf pattern) - 1 < length (rowsOf pattern) = omega (arith, rows-length pattern, long) in
-      ap (λ (i : ℕ). plainAt pattern i y) root-is ∙ plain-in (length (rowsOf pattern) - 1) k y
-
-  no-clash-in : (i : ℕ) → i < length (rowsOf pattern) → (y : ℕ) → typeOf (asPattern (itemAt (rowsOf pattern) i)) y ≡ clash → ⊥
-  no-clash-in i k = row-no-clash pattern (formed .ok) i k (clear (rowsOf pattern) 16 (fault16 (rowsOf pattern)) (row-causes .1 .1) i k)
-
-  pub type-no-clash : (y : ℕ) → typeOf (patternOf pattern) y ≡ clash → ⊥
-  unfolding patternOf tablePattern
-  type-no-clash y = no-clash-in (length (rowsOf pattern) - 1) (omega (arith, rows-length pattern, long)) y
-
 pub plain-checked : (pattern : List ℕ) → Checked pattern → (i : ℕ) → i * 5 + 5 ≤ length pattern → (y : ℕ) → plainAt pattern i y ≡ typeOf (asPattern (itemAt (rowsOf pattern) i)) y
 plain-checked pattern k i l = plain-in pattern (k .no-fault) i (in-rows pattern i l)
 
@@ -87,14 +68,3 @@ stands-checked pattern i k l = record { room = l; formed = formed pattern (k .no
 pub accepted-pattern : (pattern : List ℕ) → Checked pattern → AcceptedPattern (patternOf pattern)
 unfolding patternOf
 accepted-pattern pattern k = table-accepted (rowsOf pattern) (omega (arith, rows-length pattern, long pattern (k .no-fault))) (no-causes pattern (k .no-fault) .1)
-
--- r is whether the verdict v is a refusal
-pub accepted-by : (pattern : List ℕ) (v : Verdict) (r : Bool) → r ≡ isRefused (causeOf v) → r ≡ false → causeOf v ≡ patternFault pattern → patternFault pattern ≡ none
-accepted-by pattern v r told e q = go (patternFault pattern) (sym (ap isRefused q) ∙ (sym told ∙ e))
-  where
-    go : (c : Cause) → isRefused c ≡ false → c ≡ none
-    go none n = refl
-    go (some c) n = no-true n
-
-pub checked-by : (pattern : List ℕ) (v : Verdict) (r : Bool) → causeOf v ≡ patternFault pattern → r ≡ isRefused (causeOf v) → r ≡ false → Checked pattern
-checked-by pattern v r q told e = accepted-checked pattern (accepted-by pattern v r told e q)

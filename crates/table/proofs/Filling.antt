@@ -12,6 +12,7 @@ use lib.Pow.{shl-exact}
 use lib.Seq.{sets-eq, getD-at, take-at, drop-append-add, drop-drop}
 use borrow.Author.Tests.{eqb-true, eqb-false}
 use Rattle.meaning.proofs.Eight.{from, from-next}
+use Rattle.meaning.proofs.Lists.{each-append, up-end}
 use Rattle.meaning.specs.Basics.{each, eight, upFrom}
 use Rattle.meaning.specs.Pattern.{Pattern, inVar}
 use Rattle.meaning.specs.Typing.{Found, absent, clash, typed, typeOf}
@@ -21,7 +22,6 @@ use Rattle.typecode.specs.Codes.{codeOf}
 use Rattle.table.specs.Typing.{TypeIs}
 use Rattle.table.specs.Variables.{One, Within, Weight, HasVariables, HasType, patternAt, maskOf, listOf, variablesAt, typeAt}
 use Rattle.typecode.proofs.Codes.{ty-some}
-use Rattle.table.proofs.Area.{each-append, up-end}
 use Rattle.table.proofs.AcceptedTable.{plain-checked}
 
 -- ------------------------------------------------------------------ one, row_type, weight

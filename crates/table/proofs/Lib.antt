@@ -4,8 +4,6 @@ pub mod Plain
 pub mod TypedRows
 pub mod Scanning
 pub mod FirstFault
-pub mod Digits
 pub mod AcceptedTable
 pub mod Roots
-pub mod Area
 pub mod Filling

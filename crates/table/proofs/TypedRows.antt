@@ -9,13 +9,13 @@ use lib.ListN.{length}
 use borrow.Author.Tests.{eqb-true, eqb-false, leb-true}
 use Rattle.meaning.specs.Basics.{eight}
 use Rattle.meaning.specs.Pattern.{Pattern, Condition, conditioned, named, inVar, inCondition}
-use Rattle.meaning.specs.Typing.{Found, clash, typeOf, fits, unionTy, concatenationTy, repetitionTy, namedTy, conditionedTy}
+use Rattle.meaning.specs.Typing.{Found, typeOf, fits, unionTy, concatenationTy, repetitionTy, namedTy, conditionedTy}
 use Rattle.meaning.specs.Table.{Form, Item, patternItem, conditionItem, noItem, rowsOf, itemAt, formAt, fine, make, asPattern, asCondition, anyOf, isClash, isVariable, untyped, onPattern, fault16, patternRow, conditionRow, isNode, isEdge, isUnion, isConcatenation, isConditioned, isRepetition, isConstant, isProperty, isAnd, isOr, isNot, isBad}
 use Rattle.meaning.specs.Table.{Row as RowOf}
 use Rattle.meaning.proofs.Logic.{and-l, and-r, or-l, or-r, no-true, no-false, not-false}
 use Rattle.meaning.proofs.Rows.{item-is, pattern-below}
 use Rattle.meaning.proofs.Variables.{var-all}
-use Rattle.meaning.proofs.Unused.{condition-variable, unused→absent}
+use Rattle.meaning.proofs.Unused.{condition-variable}
 use Rattle.rows.specs.Rows.{Reads}
 use Rattle.rows.specs.Faults.{Formed, Tells}
 use Rattle.table.specs.Ready.{Typable}
@@ -78,15 +78,6 @@ item-untyped noItem = refl
 fault-untyped : (rows : List RowOf) (i : ℕ) → fault16 rows i ≡ untyped (asPattern (itemAt rows i))
 unfolding fault16
 fault-untyped rows i = item-untyped (itemAt rows i)
-
--- in a row with no fault no variable clashes
-pub row-no-clash : (pattern : List ℕ) → ((i : ℕ) → i < length (rowsOf pattern) → fine (rowsOf pattern) i (formAt (rowsOf pattern) i) ≡ true) → (i : ℕ) → i < length (rowsOf pattern) → fault16 (rowsOf pattern) i ≡ false → (x : ℕ) → typeOf (asPattern (itemAt (rowsOf pattern) i)) x ≡ clash → ⊥
-unfolding untyped isClash
-row-no-clash pattern ok i l n x q = go (inVar (asPattern (itemAt (rowsOf pattern) i)) x) refl
-  where
-    go : (b : Bool) → inVar (asPattern (itemAt (rowsOf pattern) i)) x ≡ b → ⊥
-    go true e = no-true (sym (any-variable (λ y. isClash (typeOf (asPattern (itemAt (rowsOf pattern) i)) y)) x (var-all (rowsOf pattern) ok i l x e) (ap isClash q)) ∙ sym (fault-untyped (rowsOf pattern) i) ∙ n)
-    go false e = no-false (ap isClash (sym (unused→absent (asPattern (itemAt (rowsOf pattern) i)) x e) ∙ q))
 
 abbrev Plain : Pattern → Type 0
 Plain π = (x : ℕ) → plainOf π x ≡ typeOf π x

@@ -2,5 +2,4 @@ pub mod Ready
 pub mod Repetition
 pub mod Typing
 pub mod Verdict
-pub mod TypeArea
 pub mod Variables

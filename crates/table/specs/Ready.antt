@@ -1,11 +1,12 @@
 -- What the causes before it leave to a check of rows.
+use mathlib.Core.Path.{_≡_}
 use mathlib.Core.List.{List}
 use mathlib.Core.Bool.{Bool}
 use mathlib.Core.Option.{Option, none, some}
-use Prim.Native.Nat.{ℕ, _<_, _≤_}
+use Prim.Native.Nat.{ℕ, _-_, _/_, _<_, _≤_}
 use lib.ListN.{length}
 use Rattle.meaning.specs.Pattern.{nesting}
-use Rattle.meaning.specs.Table.{rowsOf, itemAt, asPattern, fault12, fault13, fault14, fault15, fault16}
+use Rattle.meaning.specs.Table.{rowsOf, itemAt, asPattern, fault12, fault13, fault14, fault15, fault16, patternFault}
 use Rattle.meaning.specs.Table.{Row as RowOf}
 use Rattle.rows.specs.Faults.{Formed, Stands}
 use Rattle.table.specs.declared.lowest.Fault.{Fault}
@@ -21,6 +22,12 @@ pub record Shallow (pattern : List ℕ) : Type 0 where
 pub record Typable (pattern : List ℕ) (row : ℕ) : Type 0 where
   pub stands : Stands pattern row
   pub shallow : Shallow pattern
+
+-- a table that was accepted
+pub record Checked (pattern : List ℕ) : Type 0 where
+  pub long : 5 ≤ length pattern
+  pub last : Typable pattern (length pattern / 5 - 1)
+  pub no-fault : patternFault pattern ≡ none
 
 -- the test of a fault
 abbrev pub faultBy : Fault → List RowOf → ℕ → Bool

@@ -9,7 +9,7 @@ use Rattle.meaning.specs.Typing.{typeOf}
 use Rattle.meaning.specs.Table.{rowsOf, itemAt, asPattern}
 use Rattle.meaning.specs.Report.{bit}
 use Rattle.typecode.specs.Codes.{codeOf}
-use Rattle.table.specs.TypeArea.{Checked}
+use Rattle.table.specs.Ready.{Checked}
 
 -- the bit of x
 pub record One (x r : ℕ) : Type 0 where

@@ -2,12 +2,11 @@
 use mathlib.Core.Option.{none, some}
 use Rattle.meaning.specs.Basics.{Cause}
 use Rattle.table.specs.declared.causes.Verdict.{Verdict}
-use Rattle.table.specs.declared.causes.Verdict.the-variants.{Accepted, TypeAreaTooShort, BadLength, Malformed, Loose, Edgeless, TooDeep, Untyped}
+use Rattle.table.specs.declared.causes.Verdict.the-variants.{Accepted, BadLength, Malformed, Loose, Edgeless, TooDeep, Untyped}
 
 -- 01, 'Check a pattern'
 abbrev pub causeOf : Verdict → Cause
 causeOf Accepted = none
-causeOf TypeAreaTooShort = some (17, 0)
 causeOf BadLength = some (11, 0)
 causeOf (Malformed i) = some (12, i)
 causeOf (Loose i) = some (13, i)

@@ -13,7 +13,6 @@ ghost use Rattle.words.specs.Fault.{isRefused, numberOf, rowOf};
 // The last five name the faulty row.
 pub enum Verdict {
     Accepted,
-    TypeAreaTooShort,
     BadLength,
     Malformed(usize),
     Loose(usize),
@@ -29,7 +28,6 @@ impl Verdict {
     {
         match self {
             Verdict::Accepted => false,
-            Verdict::TypeAreaTooShort => true,
             Verdict::BadLength => true,
             Verdict::Malformed(_) => true,
             Verdict::Loose(_) => true,
@@ -45,7 +43,6 @@ impl Verdict {
     {
         match self {
             Verdict::Accepted => 0,
-            Verdict::TypeAreaTooShort => 17,
             Verdict::BadLength => 11,
             Verdict::Malformed(_) => 12,
             Verdict::Loose(_) => 13,
@@ -61,7 +58,6 @@ impl Verdict {
     {
         match self {
             Verdict::Accepted => 0,
-            Verdict::TypeAreaTooShort => 0,
             Verdict::BadLength => 0,
             Verdict::Malformed(i) => i as u64,
             Verdict::Loose(i) => i as u64,

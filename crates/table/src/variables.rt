@@ -4,7 +4,7 @@ ghost use mathlib.Core.Path.{_≡_};
 ghost use mathlib.Core.List.{_++_};
 ghost use Prim.Native.Nat.{_<_, _≤_, _+_, _*_, _/_};
 ghost use lib.ListN.{length, drop};
-ghost use Rattle.table.specs.TypeArea.{Checked};
+ghost use Rattle.table.specs.Ready.{Checked};
 ghost use Rattle.table.specs.Variables.{One, Within, Weight, HasVariables, HasType, listOf, variablesAt, typeAt};
 
 // The bit of variable x.

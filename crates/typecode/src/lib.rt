@@ -1,5 +1,8 @@
 // A type as one number, its outermost constructor in the lowest digit to base 8; 0 not used, 7 no type. Each function promises the
 // number of the type that a rule of Figure 2 of 000 gives.
+mod digits;
+
+pub use digits::put_type;
 ghost use Prim.Native.Nat.{_<_, _+_, _*_};
 ghost use Rattle.typecode.specs.Codes.{Opts, BothTyped, Unites, Joins, Repeats, Singles, Names};
 

@@ -1,0 +1,10 @@
+pub mod Ranges
+pub mod PartLaws
+pub mod LayoutWays
+pub mod Refusals
+pub mod Behind
+pub mod NameWays
+pub mod PartWays
+pub mod TypeWays
+pub mod CheckWays
+pub mod AreaWays
