@@ -1,0 +1,4 @@
+pub mod Paths
+pub mod Names
+pub mod Own
+pub mod Judging
