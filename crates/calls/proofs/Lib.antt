@@ -1,2 +1,3 @@
+pub mod CompileWays
 pub mod CallWays
 pub mod PageLeft

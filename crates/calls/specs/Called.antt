@@ -1,23 +1,65 @@
--- What a call is compiled to, and what a page call promises.
+-- What a call is compiled to, and what it promises.
 use mathlib.Core.Path.{_≡_}
-use mathlib.Core.List.{List}
-use Prim.Native.Nat.{ℕ}
-use Rattle.compiled.specs.Parts.{patternIn, restrictorIn}
-use Rattle.compiled.specs.Words.{graphIn}
-use Rattle.meaning.specs.FullListing.{fullListing}
-use Rattle.meaning.specs.Listing.{listing}
+use mathlib.Core.List.{List, [], _++_, _∷_}
+use mathlib.Core.Option.{none}
+use mathlib.Core.Bool.{Bool, false}
+use Prim.Native.Nat.{_<_, _≤_, ℕ}
+use lib.Dec.{eqb}
+use lib.ListN.{getD, length}
+use Rattle.compiled.specs.Copies.{GraphFilled}
+use Rattle.compiled.specs.Derived.{planWords}
+use Rattle.joins.specs.Projected.{foundIn}
 use Rattle.meaning.specs.Page.{after}
+use Rattle.meaning.specs.QueryListing.{judgeQuery, queryFixedFault, queryFullListing}
+use Rattle.meaning.specs.QueryWords.{Part, partsOf}
 use Rattle.page.specs.Pages.{Fine, sheetOf}
 use Rattle.page.specs.declared.state.State.{State}
-use Rattle.plan.specs.Ready.{Ready}
+use Rattle.parts.specs.Pieces.{piece}
+use Rattle.parts.specs.Plans.{PartPlan}
 use Rattle.search.specs.Sheet.{placeAll, start}
+use Rattle.typecode.specs.Codes.{codeOf}
 
--- graph and plan are ready, and their listing is that of the image, the table and the restrictor
-pub record Called (image pattern : List ℕ) (n : ℕ) (graph plan : List ℕ) : Type 0 where
-  pub ready : Ready graph plan
-  pub listing-is : listing (graphIn graph) (restrictorIn plan) (patternIn plan) ≡ fullListing image pattern n
+-- ------------------------------------------------------------------ what is compiled
+-- graph is that of the image, and nothing refuses the image and the query
+pub record Called (image query graph : List ℕ) : Type 0 where
+  pub graph-is : GraphFilled image graph
+  pub granted : queryFixedFault image query ≡ none
 
+-- of some image
+pub record CalledBy (query graph : List ℕ) : Type 0 where
+  pub image : List ℕ
+  pub called : Called image query graph
+
+-- the plan is that of the part i
+pub record PlanOf (query : List ℕ) (i : ℕ) (graph plan : List ℕ) : Type 0 where
+  pub is : (l₀ : List Part) (a : Part) (l₁ : List Part) → partsOf query ≡ l₀ ++ a ∷ l₁ → length l₀ ≡ i → PartPlan graph plan a
+
+-- the plans are those of the parts
+pub record PlansOf (query graph plans : List ℕ) : Type 0 where
+  pub part : (l₀ : List Part) (a : Part) (l₁ : List Part) → partsOf query ≡ l₀ ++ a ∷ l₁ → PartPlan graph (piece planWords (length l₀) plans) a
+
+pub record NamesOf (query names : List ℕ) : Type 0 where
+  pub is : (l₀ : List Part) (a : Part) (l₁ : List Part) → partsOf query ≡ l₀ ++ a ∷ l₁ → getD names (length l₀) 0 ≡ a .name
+
+pub record TypesOf (query types : List ℕ) : Type 0 where
+  pub is : (x : ℕ) → 1 ≤ x → x < 9 → getD types x 0 ≡ codeOf (foundIn (partsOf query) x)
+
+-- one part without a name
+unfoldable pub isAlone : List Part → Bool
+isAlone [] = false
+isAlone (a ∷ []) = eqb (a .name) 0
+isAlone (a ∷ b ∷ l) = false
+
+-- ------------------------------------------------------------------ what is promised
 -- the records of the full listing after the bookmark are put on the page
-pub record FilledBy (image pattern : List ℕ) (n : ℕ) (bookmark page₀ page : List ℕ) (r : State) : Type 0 where
-  pub is : sheetOf page r ≡ placeAll (start page₀) (after bookmark (fullListing image pattern n))
+pub record FilledBy (image query bookmark page₀ page : List ℕ) (r : State) : Type 0 where
+  pub is : sheetOf page r ≡ placeAll (start page₀) (after bookmark (queryFullListing image query))
   pub fine : Fine page r
+
+-- for the image of the graph
+pub record FilledOn (query graph bookmark page₀ page : List ℕ) (r : State) : Type 0 where
+  pub is : (image : List ℕ) → Called image query graph → FilledBy image query bookmark page₀ page r
+
+-- r tells whether the words are a record of the full listing, for the image of the graph
+pub record JudgedOn (query graph rec : List ℕ) (r : Bool) : Type 0 where
+  pub is : (image : List ℕ) → Called image query graph → r ≡ judgeQuery image query rec

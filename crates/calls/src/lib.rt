@@ -1,5 +1,5 @@
-// What a call is lent, compiled, and asked of the lister or the judge. Nothing refuses it: the image, the table and the restrictor were
-// accepted before.
+// What a call is lent, compiled, and asked of the lister or the judge: of those of one part, or of those of a join. Nothing refuses it: the
+// image and the query were accepted before.
 mod compiling;
 mod filling;
 mod judging;

@@ -1,4 +1,4 @@
--- That the words are the graph and the table: what `compile` promises.
+-- That the words are the graph and the table: what `fill_graph` and `fill_part` promise.
 use mathlib.Core.Path.{_≡_, refl, sym, ap, ap₂, _∙_, fun-ext}
 use mathlib.Core.List.{List, _++_, map}
 use mathlib.Core.Bool.{Bool, true, false, _&&_, _||_}
@@ -26,8 +26,8 @@ use Rattle.image.proofs.Edges.{ends-are-nodes}
 use Rattle.image.proofs.Rising.{labels-rise, properties-rise}
 use Rattle.compiled.specs.Words.{edgeIn, edgeOf, edgesIn, graphIn, labelsIn, names, nodesIn, numberIn, propertiesIn, someNames, valueIn, valueOf}
 use Rattle.compiled.specs.Parts.{HeadKept, restrictorIn, tableIn}
-use Rattle.compiled.specs.Sound.{Lawful}
-use Rattle.compiled.specs.Copies.{Compiled, EdgeWord, GraphFilled, HeadFilled, LabelWord, PartFilled, PropertyWord, Put, RowsFilled, TableWord}
+use Rattle.compiled.specs.Sound.{Lawful, Sound}
+use Rattle.compiled.specs.Copies.{EdgeWord, GraphFilled, HeadFilled, LabelWord, PartFilled, PropertyWord, Put, RowsFilled, TableWord}
 use Rattle.compiled.specs.Derived.{RowsAre, planWords, typeIn}
 use Rattle.compiled.proofs.Frames.{restrictor-kept, table-kept, tabled-kept}
 use Rattle.compiled.proofs.Parts.{accepted-short}
@@ -239,12 +239,6 @@ pub part-filled : (pattern : List ℕ) (n : ℕ) (p₀ p words : List ℕ) → p
     → PartFilled pattern n (take 328 p ++ (words ++ drop (length p - 328) (drop 328 p)))
 part-filled pattern n p₀ p words e h room long l r = filled-part pattern n p words e h (long ∙ room) l r
 
--- the way out of compile
-pub compiled-is : (image pattern : List ℕ) (n : ℕ) (g p : List ℕ) → patternFault pattern ≡ none → GraphFilled image g → PartFilled pattern n p → Compiled image pattern n g p
-compiled-is image pattern n g p e x y = record {
-  sound = record { lawful = x .lawful; tabled = y .tabled; accepted = ap patternFault (y .is) ∙ e };
-  rows = y .rows;
-  graph-is = x .is;
-  table-is = y .is;
-  restrictor-is = y .restrictor-is;
-}
+-- with a graph it is sound
+pub part-sound : (graph pattern : List ℕ) (n : ℕ) (p : List ℕ) → Lawful graph → patternFault pattern ≡ none → PartFilled pattern n p → Sound graph p
+part-sound graph pattern n p g e f = record { lawful = g; tabled = f .tabled; accepted = ap patternFault (f .is) ∙ e }

@@ -1,4 +1,4 @@
--- What the words are made of, and what `compile` promises.
+-- What the words are made of, and what `fill_graph` and `fill_part` promise.
 use mathlib.Core.Path.{_≡_}
 use mathlib.Core.List.{List}
 use Prim.Native.Nat.{ℕ, _*_, _+_, _/_, _%_, _<_, _≤_}
@@ -12,7 +12,7 @@ use Rattle.typecode.specs.Codes.{codeOf}
 use Rattle.compiled.specs.Derived.{RowsAre}
 use Rattle.compiled.specs.Words.{edgeOf, graphIn, pairOf, valueIn}
 use Rattle.compiled.specs.Parts.{Tabled, restrictorIn, tableIn}
-use Rattle.compiled.specs.Sound.{Lawful, Sound}
+use Rattle.compiled.specs.Sound.{Lawful}
 
 -- the word is row i of its section
 pub record EdgeWord (image : List ℕ) (i w : ℕ) : Type 0 where
@@ -57,11 +57,4 @@ pub record PartFilled (pattern : List ℕ) (restrictor : ℕ) (p : List ℕ) : T
   pub tabled : Tabled p
   pub rows : RowsAre p
   pub is : tableIn p ≡ pattern
-  pub restrictor-is : restrictorIn p ≡ restrictorOf restrictor
-
-pub record Compiled (image pattern : List ℕ) (restrictor : ℕ) (g p : List ℕ) : Type 0 where
-  pub sound : Sound g p
-  pub rows : RowsAre p
-  pub graph-is : graphIn g ≡ graphOf image
-  pub table-is : tableIn p ≡ pattern
   pub restrictor-is : restrictorIn p ≡ restrictorOf restrictor

@@ -1,4 +1,4 @@
--- What is asked of the words of `graph` and `plan`: `compile` grants it.
+-- What is asked of the words of `graph` and `plan`: `fill_graph` and `fill_part` grant it.
 use mathlib.Core.Path.{_≡_}
 use mathlib.Core.List.{List}
 use mathlib.Core.Bool.{Bool, true, false}

@@ -18,7 +18,7 @@ ghost use Prim.Native.Nat.{_≤_};
 ghost use lib.ListN.{length};
 ghost use Rattle.meaning.specs.Table.{patternFault};
 ghost use Rattle.image.specs.Sections.{Checked};
-ghost use Rattle.compiled.specs.Copies.{Compiled, EdgeWord, GraphFilled, HeadFilled, LabelWord, PartFilled, PropertyWord, Put, RowsFilled, TableWord};
+ghost use Rattle.compiled.specs.Copies.{EdgeWord, GraphFilled, HeadFilled, LabelWord, PartFilled, PropertyWord, Put, RowsFilled, TableWord};
 ghost use Rattle.compiled.specs.Derived.{graphWords, planWords};
 
 fn fill_edges(image: &[u8], s: Sections, graph: &mut [u64])
@@ -58,7 +58,7 @@ fn fill_properties(image: &[u8], s: Sections, graph: &mut [u64])
 }
 
 // The graph of an accepted image.
-fn fill_graph(image: &[u8], s: Sections, graph: &mut [u64])
+pub fn fill_graph(image: &[u8], s: Sections, graph: &mut [u64])
     requires { ⌜ Checked (now image) s × (length (now graph) ≡ graphWords) ⌝ }
     ensures { λ _. ⌜ GraphFilled (now (image .entry)) (now (graph .exit)) ⌝ }
 {
@@ -104,26 +104,10 @@ fn fill_rows(pattern: &[u16], words: &mut [u64])
 }
 
 // The part: table, restrictor, and what the table says of its rows.
-fn fill_part(pattern: &[u16], restrictor: u64, plan: &mut [u64])
+pub fn fill_part(pattern: &[u16], restrictor: u64, plan: &mut [u64])
     requires { ⌜ (patternFault (now pattern) ≡ none) × (length (now plan) ≡ planWords) ⌝ }
     ensures { λ _. ⌜ PartFilled (now (pattern .entry)) restrictor (now (plan .exit)) ⌝ }
 {
     fill_head(pattern, restrictor, plan);
     fill_rows(pattern, &mut plan[ROWS..]);
-}
-
-// All that a call reads.
-pub fn compile(
-    image: &[u8],
-    s: Sections,
-    pattern: &[u16],
-    restrictor: u64,
-    graph: &mut [u64],
-    plan: &mut [u64],
-)
-    requires { ⌜ Checked (now image) s × (patternFault (now pattern) ≡ none) × (length (now graph) ≡ graphWords) × (length (now plan) ≡ planWords) ⌝ }
-    ensures { λ _. ⌜ Compiled (now (image .entry)) (now (pattern .entry)) restrictor (now (graph .exit)) (now (plan .exit)) ⌝ }
-{
-    fill_graph(image, s, graph);
-    fill_part(pattern, restrictor, plan);
 }

@@ -3,6 +3,9 @@ mod graphs;
 mod limits;
 mod patterns;
 
+ghost use Prim.Native.Nat.{_≤_};
+ghost use lib.ListN.{length};
+
 // The shortest for each pair of ends: from 0 to 2 only by edge 2, from 0 to 0 in three steps.
 fn shortest() {
     printing::print_text(b"T, forward or undirected, 1 to unbounded, restrictor 3\n");
@@ -12,7 +15,9 @@ fn shortest() {
 }
 
 // An accepted pattern on the graph without nodes.
-fn on_nothing(pattern: &[u16]) {
+fn on_nothing(pattern: &[u16])
+    requires { ⌜ length (now pattern) ≤ 325 ⌝ }
+{
     let image = graphs::nothing();
     printing::print_listing(&image, pattern, 1);
 }

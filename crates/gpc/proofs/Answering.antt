@@ -12,9 +12,9 @@ use borrow.Author.Tests.{le-ltb, leb-true, ltb-false}
 use Rattle.meaning.proofs.Logic.{either, no-false, no-true}
 use Rattle.meaning.specs.Basics.{firstOf, rowless}
 use Rattle.meaning.specs.Basics.{Cause as Fault}
-use Rattle.meaning.specs.FullListing.{fixedFault, judge}
-use Rattle.meaning.specs.Operations.{JudgeLeft, fillPageLeft, judgeRecord, judgeUnless}
+use Rattle.meaning.specs.Operations.{JudgeLeft, judgeUnless}
 use Rattle.meaning.specs.Page.{Left, Lent, left}
+use Rattle.meaning.specs.QueryListing.{fillPage, fixedBy, judgeQuery, judgeRecord, queryFixedFault}
 use Rattle.meaning.specs.Report.{bit, causeBytes, cleared, over, reportBytes, wideEnough}
 use Rattle.search.proofs.PageCall.{call-refused, call-unanswered}
 use Rattle.words.specs.Fault.{isRefused, numberOf, rowOf}
@@ -39,18 +39,18 @@ pub refusal-written : (v : Cause) (a image : ℕ) (report₀ report : List ℕ) 
 refusal-written v a image report₀ report e f w = w ∙ rw (e, f, cause-reported (causeOf v)) refl
 
 -- ------------------------------------------------------------------ nothing refuses
-pub verdict-reported : (image pattern : List ℕ) (n : ℕ) (rec work₀ report₀ work₁ work report : List ℕ) (verdict : Bool) (v : ℕ)
-    → verdict ≡ judge image pattern n rec → RestKept work₀ work₁ → work ≡ cleared 20000 work₁ → v ≡ bit verdict → report ≡ over (reportBytes 0 0 v 0 0 0) report₀
-    → JudgeReported image pattern n rec work₀ report₀ work report
-verdict-reported image pattern n rec work₀ report₀ work₁ work report verdict v e k c b w = record {
+pub verdict-reported : (image query rec work₀ report₀ work₁ work report : List ℕ) (verdict : Bool) (v : ℕ)
+    → verdict ≡ judgeQuery image query rec → RestKept work₀ work₁ → work ≡ cleared 20000 work₁ → v ≡ bit verdict → report ≡ over (reportBytes 0 0 v 0 0 0) report₀
+    → JudgeReported image query rec work₀ report₀ work report
+verdict-reported image query rec work₀ report₀ work₁ work report verdict v e k c b w = record {
   work-is = c ∙ cleared-rest 20000 work₁ work₀ (k .is);
   report-is = w ∙ ap (λ (x : ℕ). over (reportBytes 0 0 x 0 0 0) report₀) (b ∙ ap bit e);
 }
 
 -- ------------------------------------------------------------------ a cause, or none
 -- c is the first cause, found as the verdict v
-module _ (image pattern : List ℕ) (n : ℕ) (work : List ℕ) (v : Cause) (first : FirstCause image pattern n work v) where
-  found : causeOf v ≡ firstOf (fixedFault image pattern n) (rowless 22 (ltb (length work) 20000))
+module _ (image query work : List ℕ) (v : Cause) (first : FirstCause image query work v) where
+  found : causeOf v ≡ firstOf (queryFixedFault image query) (rowless 22 (ltb (length work) 20000))
   found = first .is
 
   none-first : (a b : Fault) → isRefused (firstOf a b) ≡ false → (a ≡ none) × (b ≡ none)
@@ -64,10 +64,10 @@ module _ (image pattern : List ℕ) (n : ℕ) (work : List ℕ) (v : Cause) (fir
   whole-none true e = no-true (ap isRefused e)
   whole-none false e = refl
 
-  neither : (r : Bool) → r ≡ isRefused (causeOf v) → r ≡ false → (fixedFault image pattern n ≡ none) × (rowless 22 (ltb (length work) 20000) ≡ none)
-  neither r e f = none-first (fixedFault image pattern n) (rowless 22 (ltb (length work) 20000)) (ap isRefused (sym found) ∙ (sym e ∙ f))
+  neither : (r : Bool) → r ≡ isRefused (causeOf v) → r ≡ false → (queryFixedFault image query ≡ none) × (rowless 22 (ltb (length work) 20000) ≡ none)
+  neither r e f = none-first (queryFixedFault image query) (rowless 22 (ltb (length work) 20000)) (ap isRefused (sym found) ∙ (sym e ∙ f))
 
-  pub granted : (r : Bool) → r ≡ isRefused (causeOf v) → r ≡ false → fixedFault image pattern n ≡ none
+  pub granted : (r : Bool) → r ≡ isRefused (causeOf v) → r ≡ false → queryFixedFault image query ≡ none
   granted r e f = neither r e f .0
 
   pub roomy : (r : Bool) → r ≡ isRefused (causeOf v) → r ≡ false → 20000 ≤ length work
@@ -82,7 +82,7 @@ module _ (image pattern : List ℕ) (n : ℕ) (work : List ℕ) (v : Cause) (fir
 
   -- ---------------------------------------------------------------- how a call begins
   module _ (report₀ : List ℕ) (s : Bool) (area : s ≡ not (wideEnough report₀)) where
-    pub begun-refused : s ≡ false → (r : Bool) → r ≡ isRefused (causeOf v) → r ≡ true → (report : List ℕ) → report ≡ over (causeBytes (causeOf v)) report₀ → Begun image pattern n work report₀ report 1
+    pub begun-refused : s ≡ false → (r : Bool) → r ≡ isRefused (causeOf v) → r ≡ true → (report : List ℕ) → report ≡ over (causeBytes (causeOf v)) report₀ → Begun image query work report₀ report 1
     begun-refused h r e f report w =
         let x = the-cause r e f in
         record {
@@ -92,7 +92,7 @@ module _ (image pattern : List ℕ) (n : ℕ) (work : List ℕ) (v : Cause) (fir
           granted-is = λ z. absurd (omega arith);
         }
 
-    pub begun-granted : s ≡ false → (r : Bool) → r ≡ isRefused (causeOf v) → r ≡ false → Begun image pattern n work report₀ report₀ 2
+    pub begun-granted : s ≡ false → (r : Bool) → r ≡ isRefused (causeOf v) → r ≡ false → Begun image query work report₀ report₀ 2
     begun-granted h r e f = record {
       least = omega arith;
       unanswered-is = λ z. absurd (omega arith);
@@ -100,8 +100,8 @@ module _ (image pattern : List ℕ) (n : ℕ) (work : List ℕ) (v : Cause) (fir
       granted-is = λ z. (wide-is report₀ s area h, granted r e f, roomy r e f, refl);
     }
 
-pub begun-short : (image pattern : List ℕ) (n : ℕ) (work report : List ℕ) (s : Bool) → s ≡ not (wideEnough report) → s ≡ true → Begun image pattern n work report report 0
-begun-short image pattern n work report s e f = record {
+pub begun-short : (image query work report : List ℕ) (s : Bool) → s ≡ not (wideEnough report) → s ≡ true → Begun image query work report report 0
+begun-short image query work report s e f = record {
   least = omega arith;
   unanswered-is = λ z. (narrow-is report s e f, refl);
   refused-is = λ z. absurd (omega arith);
@@ -109,9 +109,9 @@ begun-short image pattern n work report s e f = record {
 }
 
 -- ------------------------------------------------------------------ how it goes on
-module _ (image pattern : List ℕ) (n : ℕ) (work report₀ report : List ℕ) (k : ℕ) (begun : Begun image pattern n work report₀ report k) where
+module _ (image query work report₀ report : List ℕ) (k : ℕ) (begun : Begun image query work report₀ report k) where
   -- not refused
-  pub on-granted : 2 ≤ k → fixedFault image pattern n ≡ none
+  pub on-granted : 2 ≤ k → queryFixedFault image query ≡ none
   on-granted h = let z : k ≡ 2 = omega (arith, begun .least) in begun .granted-is z .1
 
   pub on-roomy : 2 ≤ k → 20000 ≤ length work
@@ -132,7 +132,7 @@ module _ (image pattern : List ℕ) (n : ℕ) (work report₀ report : List ℕ)
   -- ---------------------------------------------------------------- judge a record
   module _ (rec : List ℕ) where
     abbrev Judged : ℕ → List ℕ → List ℕ → Type 0
-    Judged r w d = _≡_ {A = JudgeLeft} (record { result = r; work = w; report = d }) (judgeRecord image pattern n rec work report₀)
+    Judged r w d = _≡_ {A = JudgeLeft} (record { result = r; work = w; report = d }) (judgeRecord image query rec work report₀)
 
     judge-unanswered : k ≡ 0 → Judged k work report
     unfolding judgeRecord
@@ -142,11 +142,11 @@ module _ (image pattern : List ℕ) (n : ℕ) (work report₀ report : List ℕ)
     unfolding judgeRecord judgeUnless
     judge-refused z = let u = begun .refused-is z in rw (z, u .0, u .1 .1, u .1 .2) refl
 
-    pub judge-stopped : k < 2 → _≡_ {A = JudgeLeft} (record { result = k; work = work; report = report }) (judgeRecord image pattern n rec work report₀)
+    pub judge-stopped : k < 2 → _≡_ {A = JudgeLeft} (record { result = k; work = work; report = report }) (judgeRecord image query rec work report₀)
     judge-stopped h = either (zero-or-one h) judge-unanswered judge-refused
 
-    pub judge-answered : 2 ≤ k → (work₁ report₁ : List ℕ) → JudgeReported image pattern n rec work report work₁ report₁
-        → _≡_ {A = JudgeLeft} (record { result = 1; work = work₁; report = report₁ }) (judgeRecord image pattern n rec work report₀)
+    pub judge-answered : 2 ≤ k → (work₁ report₁ : List ℕ) → JudgeReported image query rec work report work₁ report₁
+        → _≡_ {A = JudgeLeft} (record { result = 1; work = work₁; report = report₁ }) (judgeRecord image query rec work report₀)
     unfolding judgeRecord judgeUnless firstOf rowless
     judge-answered h work₁ report₁ j =
         let z : k ≡ 2 = omega (arith, begun .least) in
@@ -161,20 +161,20 @@ module _ (image pattern : List ℕ) (n : ℕ) (work report₀ report : List ℕ)
     abbrev answered : ℕ → List ℕ → List ℕ → List ℕ → Left
     answered r p w d = record { result = r; page = p; work = w; report = d }
 
-    page-unanswered : k ≡ 0 → answered k page₀ work report ≡ fillPageLeft image pattern n bookmark lent
-    unfolding fillPageLeft left
-    page-unanswered z = let u = begun .unanswered-is z in rw (z, u .1) (sym (call-unanswered image pattern n bookmark lent (u .0)))
+    page-unanswered : k ≡ 0 → answered k page₀ work report ≡ fillPage image query bookmark lent
+    unfolding fillPage fixedBy left
+    page-unanswered z = let u = begun .unanswered-is z in rw (z, u .1) (sym (call-unanswered (fixedBy image query) bookmark lent (u .0)))
 
-    page-refused : k ≡ 1 → answered k page₀ work report ≡ fillPageLeft image pattern n bookmark lent
-    unfolding fillPageLeft left
-    page-refused z = let u = begun .refused-is z in rw (z, u .1 .2) (sym (call-refused image pattern n bookmark lent (u .0) (u .1 .0) (u .1 .1)))
+    page-refused : k ≡ 1 → answered k page₀ work report ≡ fillPage image query bookmark lent
+    unfolding fillPage fixedBy left
+    page-refused z = let u = begun .refused-is z in rw (z, u .1 .2) (sym (call-refused (fixedBy image query) bookmark lent (u .0) (u .1 .0) (u .1 .1)))
 
-    pub page-stopped : k < 2 → _≡_ {A = Left} (record { result = k; page = page₀; work = work; report = report }) (fillPageLeft image pattern n bookmark (record { page = page₀; work = work; report = report₀ }))
+    pub page-stopped : k < 2 → _≡_ {A = Left} (record { result = k; page = page₀; work = work; report = report }) (fillPage image query bookmark (record { page = page₀; work = work; report = report₀ }))
     page-stopped h = either (zero-or-one h) page-unanswered page-refused
 
     pub page-answered : 2 ≤ k → (r : ℕ) (page work₁ report₁ : List ℕ)
-        → _≡_ {A = Left} (record { result = r; page = page; work = work₁; report = report₁ }) (fillPageLeft image pattern n bookmark (record { page = page₀; work = work; report = report }))
-        → _≡_ {A = Left} (record { result = r; page = page; work = work₁; report = report₁ }) (fillPageLeft image pattern n bookmark (record { page = page₀; work = work; report = report₀ }))
+        → _≡_ {A = Left} (record { result = r; page = page; work = work₁; report = report₁ }) (fillPage image query bookmark (record { page = page₀; work = work; report = report }))
+        → _≡_ {A = Left} (record { result = r; page = page; work = work₁; report = report₁ }) (fillPage image query bookmark (record { page = page₀; work = work; report = report₀ }))
     page-answered h r page work₁ report₁ e =
         let z : k ≡ 2 = omega (arith, begun .least) in
-        e ∙ ap (λ (d : List ℕ). fillPageLeft image pattern n bookmark (record { page = page₀; work = work; report = d })) (begun .granted-is z .3)
+        e ∙ ap (λ (d : List ℕ). fillPage image query bookmark (record { page = page₀; work = work; report = d })) (begun .granted-is z .3)

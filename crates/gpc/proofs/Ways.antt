@@ -11,13 +11,14 @@ use Rattle.meaning.proofs.Logic.{not-true, not-false}
 use Rattle.meaning.specs.Basics.{Cause, if_then_else_}
 use Rattle.meaning.specs.Image.{imageFault}
 use Rattle.meaning.specs.Report.{over, reportBytes, causeBytes, wideEnough}
-use Rattle.meaning.specs.Table.{patternFault}
-use Rattle.meaning.specs.Operations.{ReadLeft, readImage, CheckLeft, typesOrZeros, checkPattern}
+use Rattle.meaning.specs.Operations.{ReadLeft, readImage, CheckLeft}
+use Rattle.meaning.specs.QueryListing.{checkQuery, typesOrZeros}
+use Rattle.meaning.specs.QueryWords.{queryFault}
 use Rattle.words.specs.Fault.{numberOf, rowOf}
 use Rattle.words.proofs.Refusals.{cause-reported}
-use Rattle.table.specs.declared.causes.Verdict.{Verdict}
-use Rattle.table.specs.Verdict.{causeOf}
-use Rattle.table.specs.TypeArea.{TypesLeft}
+use Rattle.query.specs.declared.causes.Verdict.{Verdict}
+use Rattle.query.specs.Verdict.{causeOf}
+use Rattle.query.specs.TypeArea.{TypesLeft}
 
 -- the test of a report area d, whose answer is s
 module _ (d : List ℕ) where
@@ -50,21 +51,21 @@ module _ (image d : List ℕ) where
   unfolding readImage
   reported s h f c e n r en er d′ w = rw (wide-is d s h f, ← e, ← cause-reported c, w, en, er)
 
--- w is the pattern, t the type area, d the report's bytes
+-- w is the query, t the type area, d the report's bytes
 module _ (w t d : List ℕ) where
-  pub no-check : (s : Bool) → s ≡ not (wideEnough d) → s ≡ true → _≡_ {A = CheckLeft} (record { result = 0; types = t; report = d }) (checkPattern w t d)
-  unfolding checkPattern
+  pub no-check : (s : Bool) → s ≡ not (wideEnough d) → s ≡ true → _≡_ {A = CheckLeft} (record { result = 0; types = t; report = d }) (checkQuery w t d)
+  unfolding checkQuery
   no-check s e f = rw (narrow-is d s e f)
 
   -- what a call with a report area leaves, by whether the type area is too short
-  checked-by : (image : Bool) (c : Cause) (t′ : List ℕ) → c ≡ (if image then some (17, 0) else patternFault w) → t′ ≡ (if image then t else over (typesOrZeros (patternFault w) w) t)
+  checked-by : (short : Bool) (c : Cause) (t′ : List ℕ) → c ≡ (if short then some (17, 0) else queryFault w) → t′ ≡ (if short then t else over (typesOrZeros (queryFault w) w) t)
       → _≡_ {A = CheckLeft} (record { result = 1; types = t′; report = over (causeBytes c) d })
-      (if image then record { result = 1; types = t; report = over (causeBytes (some (17, 0))) d } else record { result = 1; types = over (typesOrZeros (patternFault w) w) t; report = over (causeBytes (patternFault w)) d })
+      (if short then record { result = 1; types = t; report = over (causeBytes (some (17, 0))) d } else record { result = 1; types = over (typesOrZeros (queryFault w) w) t; report = over (causeBytes (queryFault w)) d })
   checked-by true c t′ e f = rw (e, f) refl
   checked-by false c t′ e f = rw (e, f) refl
 
   pub checked : (s : Bool) → s ≡ not (wideEnough d) → s ≡ false → (v : Verdict) (t′ : List ℕ) → TypesLeft w t t′ v → (n r : ℕ) → n ≡ numberOf (causeOf v) → r ≡ rowOf (causeOf v) → (d′ : List ℕ) → d′ ≡ over (reportBytes n r 0 0 0 0) d
-      → _≡_ {A = CheckLeft} (record { result = 1; types = t′; report = d′ }) (checkPattern w t d)
-  unfolding checkPattern
+      → _≡_ {A = CheckLeft} (record { result = 1; types = t′; report = d′ }) (checkQuery w t d)
+  unfolding checkQuery
   checked s h f v t′ k n r en er d′ e =
-      rw (wide-is d s h f, e, en, er, cause-reported (causeOf v)) (checked-by (ltb (length t) 48) (causeOf v) t′ (k .verdict-is) (k .types-are))
+      rw (wide-is d s h f, e, en, er, cause-reported (causeOf v)) (checked-by (ltb (length t) 72) (causeOf v) t′ (k .verdict-is) (k .types-are))

@@ -7,7 +7,7 @@ ghost use Rattle.words.specs.Fault.{isRefused, numberOf, rowOf};
 pub enum Cause {
     Nothing,
     Image(image::Verdict),
-    Pattern(table::Verdict),
+    Query(query::Verdict),
     Restrictor,
     ShortWork,
 }
@@ -20,7 +20,7 @@ impl Cause {
         match self {
             Cause::Nothing => false,
             Cause::Image(v) => v.is_refused(),
-            Cause::Pattern(v) => v.is_refused(),
+            Cause::Query(v) => v.is_refused(),
             Cause::Restrictor => true,
             Cause::ShortWork => true,
         }
@@ -33,7 +33,7 @@ impl Cause {
         match self {
             Cause::Nothing => 0,
             Cause::Image(v) => v.number(),
-            Cause::Pattern(v) => v.number(),
+            Cause::Query(v) => v.number(),
             Cause::Restrictor => 21,
             Cause::ShortWork => 22,
         }
@@ -46,7 +46,7 @@ impl Cause {
         match self {
             Cause::Nothing => 0,
             Cause::Image(v) => v.row(),
-            Cause::Pattern(v) => v.row(),
+            Cause::Query(v) => v.row(),
             Cause::Restrictor => 0,
             Cause::ShortWork => 0,
         }

@@ -11,10 +11,10 @@ ghost use mathlib.Core.Bool.{not};
 ghost use mathlib.Core.Option.{none};
 ghost use Prim.Native.Nat.{_≤_};
 ghost use lib.ListN.{length};
-ghost use Rattle.meaning.specs.FullListing.{fixedFault, judge};
 ghost use Rattle.meaning.specs.Page.{Left};
 ghost use Rattle.meaning.specs.Report.{bit, causeBytes, over, wideEnough};
-ghost use Rattle.meaning.specs.Operations.{ReadLeft, readImage, CheckLeft, checkPattern, JudgeLeft, judgeRecord, fillPageLeft};
+ghost use Rattle.meaning.specs.Operations.{ReadLeft, readImage, CheckLeft, JudgeLeft};
+ghost use Rattle.meaning.specs.QueryListing.{checkQuery, fillPage, judgeQuery, judgeRecord, queryFixedFault};
 ghost use Rattle.gpc.specs.Cause.{causeOf};
 ghost use Rattle.gpc.specs.Answered.{Begun, JudgeReported, RestKept};
 
@@ -38,15 +38,15 @@ pub extern "C" fn gpc_read_image(image: &[u8], report: &mut [u8]) -> u64
     1
 }
 
-// 01, 'Check a pattern'.
+// 01, 'Check a pattern'; 02, Q-1: of every part of a query.
 #[no_mangle]
-pub extern "C" fn gpc_check_pattern(pattern: &[u16], types: &mut [u16], report: &mut [u8]) -> u64
-    ensures { λ r. ⌜ _≡_ {A = CheckLeft} (record { result = r; types = now (types .exit); report = now (report .exit) }) (checkPattern (now (pattern .entry)) (now (types .entry)) (now (report .entry))) ⌝ }
+pub extern "C" fn gpc_check_query(query: &[u16], types: &mut [u16], report: &mut [u8]) -> u64
+    ensures { λ r. ⌜ _≡_ {A = CheckLeft} (record { result = r; types = now (types .exit); report = now (report .exit) }) (checkQuery (now (query .entry)) (now (types .entry)) (now (report .entry))) ⌝ }
 {
     if is_short(report) {
         return 0;
     }
-    let checked = table::check_types(pattern, types);
+    let checked = query::check_types(query, types);
     words::write_report(report, checked.number(), checked.row(), 0, 0, 0, 0);
     1
 }
@@ -60,13 +60,13 @@ fn refuse(report: &mut [u8], cause: Cause)
 }
 
 // What every call that looks for records begins with: 0, no room to report; 1, refused; 2, nothing refuses it.
-fn begin(image: &[u8], pattern: &[u16], restrictor: u64, work: &[u16], report: &mut [u8]) -> u64
-    ensures { λ r. ⌜ Begun (now (image .entry)) (now (pattern .entry)) restrictor (now (work .entry)) (now (report .entry)) (now (report .exit)) r ⌝ }
+fn begin(image: &[u8], query: &[u16], work: &[u16], report: &mut [u8]) -> u64
+    ensures { λ r. ⌜ Begun (now (image .entry)) (now (query .entry)) (now (work .entry)) (now (report .entry)) (now (report .exit)) r ⌝ }
 {
     if is_short(report) {
         return 0;
     }
-    let cause = first_cause(image, pattern, restrictor, work);
+    let cause = first_cause(image, query, work);
     if cause.is_refused() {
         refuse(report, cause);
         return 1;
@@ -85,26 +85,19 @@ fn verdict_number(yes: bool) -> u64
 }
 
 // The judge in the first 20,000 words of the work buffer.
-fn judge_in(image: &[u8], pattern: &[u16], restrictor: u64, rec: &[u16], work: &mut [u16]) -> bool
-    requires { ⌜ (fixedFault (now image) (now pattern) restrictor ≡ none) × (20000 ≤ length (now work)) ⌝ }
-    ensures { λ r. ⌜ (r ≡ judge (now (image .entry)) (now (pattern .entry)) restrictor (now (rec .entry))) × RestKept (now (work .entry)) (now (work .exit)) ⌝ }
+fn judge_in(image: &[u8], query: &[u16], rec: &[u16], work: &mut [u16]) -> bool
+    requires { ⌜ (queryFixedFault (now image) (now query) ≡ none) × (20000 ≤ length (now work)) ⌝ }
+    ensures { λ r. ⌜ (r ≡ judgeQuery (now (image .entry)) (now (query .entry)) (now (rec .entry))) × RestKept (now (work .entry)) (now (work .exit)) ⌝ }
 {
-    calls::judge(image, pattern, restrictor, rec, &mut work[0..Record::WORK])
+    calls::judge(image, query, rec, &mut work[0..Record::WORK])
 }
 
 // The judge's answer where nothing refuses the call.
-fn report_verdict(
-    image: &[u8],
-    pattern: &[u16],
-    restrictor: u64,
-    rec: &[u16],
-    work: &mut [u16],
-    report: &mut [u8],
-)
-    requires { ⌜ (fixedFault (now image) (now pattern) restrictor ≡ none) × (20000 ≤ length (now work)) × (64 ≤ length (now report)) ⌝ }
-    ensures { λ _. ⌜ JudgeReported (now (image .entry)) (now (pattern .entry)) restrictor (now (rec .entry)) (now (work .entry)) (now (report .entry)) (now (work .exit)) (now (report .exit)) ⌝ }
+fn report_verdict(image: &[u8], query: &[u16], rec: &[u16], work: &mut [u16], report: &mut [u8])
+    requires { ⌜ (queryFixedFault (now image) (now query) ≡ none) × (20000 ≤ length (now work)) × (64 ≤ length (now report)) ⌝ }
+    ensures { λ _. ⌜ JudgeReported (now (image .entry)) (now (query .entry)) (now (rec .entry)) (now (work .entry)) (now (report .entry)) (now (work .exit)) (now (report .exit)) ⌝ }
 {
-    let yes = judge_in(image, pattern, restrictor, rec, work);
+    let yes = judge_in(image, query, rec, work);
     words::clear(work, Record::WORK);
     words::write_report(report, 0, 0, verdict_number(yes), 0, 0, 0);
 }
@@ -113,19 +106,18 @@ fn report_verdict(
 #[no_mangle]
 pub extern "C" fn gpc_judge_record(
     image: &[u8],
-    pattern: &[u16],
-    restrictor: u64,
+    query: &[u16],
     rec: &[u16],
     work: &mut [u16],
     report: &mut [u8],
 ) -> u64
-    ensures { λ r. ⌜ _≡_ {A = JudgeLeft} (record { result = r; work = now (work .exit); report = now (report .exit) }) (judgeRecord (now (image .entry)) (now (pattern .entry)) restrictor (now (rec .entry)) (now (work .entry)) (now (report .entry))) ⌝ }
+    ensures { λ r. ⌜ _≡_ {A = JudgeLeft} (record { result = r; work = now (work .exit); report = now (report .exit) }) (judgeRecord (now (image .entry)) (now (query .entry)) (now (rec .entry)) (now (work .entry)) (now (report .entry))) ⌝ }
 {
-    let begun = begin(image, pattern, restrictor, work, report);
+    let begun = begin(image, query, work, report);
     if begun < 2 {
         return begun;
     }
-    report_verdict(image, pattern, restrictor, rec, work, report);
+    report_verdict(image, query, rec, work, report);
     1
 }
 
@@ -133,18 +125,17 @@ pub extern "C" fn gpc_judge_record(
 #[no_mangle]
 pub extern "C" fn gpc_fill_page(
     image: &[u8],
-    pattern: &[u16],
-    restrictor: u64,
+    query: &[u16],
     bookmark: &[u16],
     page: &mut [u16],
     work: &mut [u16],
     report: &mut [u8],
 ) -> u64
-    ensures { λ r. ⌜ _≡_ {A = Left} (record { result = r; page = now (page .exit); work = now (work .exit); report = now (report .exit) }) (fillPageLeft (now (image .entry)) (now (pattern .entry)) restrictor (now (bookmark .entry)) (record { page = now (page .entry); work = now (work .entry); report = now (report .entry) })) ⌝ }
+    ensures { λ r. ⌜ _≡_ {A = Left} (record { result = r; page = now (page .exit); work = now (work .exit); report = now (report .exit) }) (fillPage (now (image .entry)) (now (query .entry)) (now (bookmark .entry)) (record { page = now (page .entry); work = now (work .entry); report = now (report .entry) })) ⌝ }
 {
-    let begun = begin(image, pattern, restrictor, work, report);
+    let begun = begin(image, query, work, report);
     if begun < 2 {
         return begun;
     }
-    calls::fill_page(image, pattern, restrictor, bookmark, page, work, report)
+    calls::fill_page(image, query, bookmark, page, work, report)
 }

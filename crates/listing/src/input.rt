@@ -20,8 +20,8 @@ fn read(bytes: &mut [u8], n: usize) -> usize
 }
 
 // The third number of the head.
-pub fn restrictor(head: &[u8; 6]) -> u64 {
-    words::number_at(head, 4) as u64
+pub fn restrictor(head: &[u8; 6]) -> u16 {
+    words::number_at(head, 4)
 }
 
 // As many bytes as the head says, or as there are.
@@ -45,7 +45,7 @@ fn take_words(words: &mut [u16], bytes: &[u8], count: usize)
 
 // Of a pattern over 321 words the first 321 are used, which is one word more than any table has.
 pub fn read_pattern(head: &[u8; 6], pattern: &mut [u16; 321]) -> usize
-    ensures { λ r. ⌜ Counts r (now (pattern .exit)) ⌝ }
+    ensures { λ r. ⌜ Counts r (now (pattern .exit)) × (r ≤ 321) ⌝ }
 {
     let mut bytes = [0u8; 642];
     let most = least(words::size_at(head, 2), 321);

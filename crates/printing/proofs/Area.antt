@@ -1,17 +1,23 @@
--- The 48 words that the checker writes are the type area that the records are read by. Assumes nothing.
+-- Of one part without a name, the words that the checker writes are the type area that the records are read by. Assumes nothing.
 use mathlib.Core.Path.{_∙_, _≡_, ap, refl, sym}
 use mathlib.Core.List.{List, [], _++_, _∷_, head-eq-of-cons-eq, tail-eq-of-cons-eq}
 use mathlib.Core.Bool.{Bool, false, true}
-use Prim.Native.Nat.{_*_, _+_, _-_, _<_, _≤_, suc, zero, ℕ}
+use Prim.Native.Nat.{_*_, _+_, _-_, _<_, suc, zero, ℕ}
 use native.Mathlib.Omega.{arith}
 use lib.ListN.{drop, getD, length, replicate, take}
 use lib.Seq.{drop-drop}
 use borrow.Author.Tests.{le-leb}
-use Rattle.meaning.specs.Pattern.{Pattern, inVar, nesting}
-use Rattle.meaning.specs.Table.{isVariable, tyWords, typeWords}
-use Rattle.meaning.specs.Typing.{Edge, Group, Maybe, Node, Ty, WellTyped, typeOf}
-use Rattle.meaning.proofs.TypeWords.{type-fits, types-told, typeSlot, unused-told}
-use Rattle.meaning.proofs.Types.{has-iff}
+use Rattle.meaning.specs.Answer.{Restrictor}
+use Rattle.meaning.specs.Pattern.{Pattern, inVar}
+use Rattle.meaning.specs.Query.{has-restricted, inQuery, plain, unnamed}
+use Rattle.meaning.specs.QueryWords.{queryTypeWords}
+use Rattle.meaning.specs.Table.{isVariable, tyWords}
+use Rattle.meaning.specs.Typing.{Edge, Group, Maybe, Node, Ty, typeOf}
+use Rattle.meaning.proofs.Accepted.{Accepted}
+use Rattle.meaning.proofs.QueryGranted.{isQueryVariable, variable-in}
+use Rattle.meaning.proofs.QueryTold.{query-types-told, query-unused-told, queryTyWords}
+use Rattle.meaning.proofs.TypeWords.{type-fits, typeSlot}
+use Rattle.meaning.proofs.Types.{has-iff, wellTyped-iff}
 use Rattle.meaning.proofs.Unused.{unused→absent}
 use Rattle.printing.specs.Sizes.{SlotAt, TypeAt, TypesAt}
 use Rattle.printing.proofs.Ends.{head-is}
@@ -56,15 +62,21 @@ unfolding typeSlot
 slot-words t i = let e : suc i - 1 ≡ i = omega arith in ap (λ (m : ℕ). take 6 (drop (6 * m) t)) e
 
 -- the type area of an accepted pattern
-pub types-at : (π : Pattern) → nesting π ≤ 2 → WellTyped π → TypesAt (typeOf π) (typeWords π)
-unfolding SlotAt
-types-at π n w i h = go (inVar π (suc i)) refl
+pub types-at : (ρ : Restrictor) (π : Pattern) → Accepted π → TypesAt (typeOf π) (queryTypeWords (unnamed ρ π))
+unfolding SlotAt inQuery queryTyWords
+types-at ρ π ok i h = go (inVar π (suc i)) refl
   where
-    go : (b : Bool) → inVar π (suc i) ≡ b → SlotAt (typeOf π (suc i)) (typeWords π) (6 * i)
+    t : List ℕ
+    t = queryTypeWords (unnamed ρ π)
+
+    v : isQueryVariable (suc i) ≡ true
+    v = variable-in (suc i) (is-variable i h)
+
+    go : (b : Bool) → inVar π (suc i) ≡ b → SlotAt (typeOf π (suc i)) t (6 * i)
     go false u =
-        let e : take 6 (drop (6 * i) (typeWords π)) ≡ replicate 6 0 = sym (slot-words (typeWords π) i) ∙ unused-told π (suc i) (is-variable i h) u in
-        rw (unused→absent π (suc i) u) (word-at (typeWords π) 6 (6 * i) 0 (replicate 5 0) e)
+        let e : take 6 (drop (6 * i) t) ≡ replicate 6 0 = sym (slot-words t i) ∙ query-unused-told (unnamed ρ π) (suc i) v u in
+        rw (unused→absent π (suc i) u) (word-at t 6 (6 * i) 0 (replicate 5 0) e)
     go true u =
-        let (τ, has) = w (suc i) u in
-        let e : take 6 (drop (6 * i) (typeWords π)) ≡ tyWords τ ++ replicate (6 - length (tyWords τ)) 0 = sym (slot-words (typeWords π) i) ∙ types-told π n (suc i) (is-variable i h) τ has in
-        rw (has-iff π (suc i) τ .1 has) (type-at τ (typeWords π) (replicate (6 - length (tyWords τ)) 0) 6 (6 * i) e, type-fits π n (suc i) τ has)
+        let (τ, has) = wellTyped-iff π .1 (ok .no-clash) (suc i) u in
+        let e : take 6 (drop (6 * i) t) ≡ tyWords τ ++ replicate (6 - length (tyWords τ)) 0 = sym (slot-words t i) ∙ query-types-told (unnamed ρ π) ok (suc i) v (plain τ) (has-restricted has) in
+        rw (has-iff π (suc i) τ .1 has) (type-at τ t (replicate (6 - length (tyWords τ)) 0) 6 (6 * i) e, type-fits π (ok .shallow) (suc i) τ has)

@@ -4,4 +4,5 @@ pub mod Last
 pub mod Reported
 pub mod Marks
 pub mod Accepting
+pub mod Asking
 pub mod Runs

@@ -5,9 +5,9 @@ use Prim.Native.Nat.{_+_, _-_, _<_, _≤_, suc, zero, ℕ}
 use native.Mathlib.Omega.{arith}
 use lib.ListN.{drop, length, length-append, take}
 use lib.Seq.{drop-append-add, drop-append-seam, take-append-seam}
-use Rattle.meaning.proofs.Calls.{all-right}
+use Rattle.meaning.proofs.Beginnings.{all-right}
 use Rattle.meaning.proofs.Lists.{take-front}
-use Rattle.meaning.proofs.Reading.{Readable}
+use Rattle.meaning.proofs.QueryReading.{ReadBy}
 use Rattle.meaning.specs.Basics.{All}
 use Rattle.meaning.specs.Page.{join}
 use Rattle.meaning.specs.Record.{Record, pathSize, recordSize}
@@ -27,16 +27,11 @@ module _ (f : ℕ → Found) where
   unfolding recordSize pathSize
   size-two w = omega arith
 
-  two-words : (r : Record) → Readable f r → 2 ≤ length r
+  two-words : (r : Record) → ReadBy (recordSize f) r → 2 ≤ length r
   two-words r h = omega (arith, size-two (r ++ []), h [])
 
-  pub records-words : (rs : List Record) → All (Readable f) rs → length rs ≤ length (join rs)
-  unfolding join
-  records-words [] h = omega arith
-  records-words (r ∷ rs) h = omega (arith, two-words r (h .0), records-words rs (h .1), length-append r (join rs))
-
   -- behind a record
-  shifted : (r : Record) → Readable f r → (w : List ℕ) (k : ℕ) → startOf f (r ++ w) (suc k) ≡ length r + startOf f w k
+  shifted : (r : Record) → ReadBy (recordSize f) r → (w : List ℕ) (k : ℕ) → startOf f (r ++ w) (suc k) ≡ length r + startOf f w k
   shifted r h w zero =
       let z : drop (startOf f (r ++ w) 0) (r ++ w) ≡ r ++ w = ap (λ (i : ℕ). drop i (r ++ w)) (start-zero (r ++ w)) in
       let e : recordSize f (drop (startOf f (r ++ w) 0) (r ++ w)) ≡ length r = ap (recordSize f) z ∙ h w in
@@ -53,7 +48,7 @@ module _ (f : ℕ → Found) where
   join-snoc (y ∷ ys) b = ap (λ (l : List ℕ). y ++ l) (join-snoc ys b) ∙ sym (append-assoc y (join ys) b)
 
   -- a record more before words of which the last record begins at n
-  one-more : (y : Record) → Readable f y → (v : List ℕ) (n : ℕ) → 0 < length v → ((k : ℕ) → startOf f v k < length v → length v ≤ startOf f v (suc k) → startOf f v k ≡ n)
+  one-more : (y : Record) → ReadBy (recordSize f) y → (v : List ℕ) (n : ℕ) → 0 < length v → ((k : ℕ) → startOf f v k < length v → length v ≤ startOf f v (suc k) → startOf f v k ≡ n)
       → (w : List ℕ) → w ≡ y ++ v → (k : ℕ) → startOf f w k < length w → length w ≤ startOf f w (suc k) → startOf f w k ≡ length y + n
   one-more y h v n p ih w e zero l g =
       let s : startOf f w 1 ≡ length y + startOf f v 0 = ap (λ (u : List ℕ). startOf f u 1) e ∙ shifted y h v 0 in
@@ -65,25 +60,25 @@ module _ (f : ℕ → Found) where
       let z : length w ≡ length y + length v = ap length e ∙ length-append y v in
       omega (arith, s₁, ih k (omega (arith, l, s₁, z)) (omega (arith, g, s₂, z)))
 
-  last-start : (ys : List Record) (b : Record) → All (Readable f) (ys ++ (b ∷ [])) → (k : ℕ) → startOf f (join ys ++ b) k < length (join ys ++ b) → length (join ys ++ b) ≤ startOf f (join ys ++ b) (suc k) → startOf f (join ys ++ b) k ≡ length (join ys)
+  last-start : (ys : List Record) (b : Record) → All (ReadBy (recordSize f)) (ys ++ (b ∷ [])) → (k : ℕ) → startOf f (join ys ++ b) k < length (join ys ++ b) → length (join ys ++ b) ≤ startOf f (join ys ++ b) (suc k) → startOf f (join ys ++ b) k ≡ length (join ys)
   unfolding join
   last-start [] b h zero l g = start-zero b
   last-start [] b h (suc k) l g =
       let e : startOf f b (suc k) ≡ length b + startOf f [] k = ap (λ (u : List ℕ). startOf f u (suc k)) (sym (append-nil b)) ∙ shifted b (h .0) [] k in
       absurd (omega (arith, e, l))
   last-start (y ∷ ys) b h k l g =
-      let r : Readable f b = all-right (Readable f) ys (b ∷ []) (h .1) .0 in
+      let r : ReadBy (recordSize f) b = all-right (ReadBy (recordSize f)) ys (b ∷ []) (h .1) .0 in
       let p : 0 < length (join ys ++ b) = omega (arith, length-append (join ys) b, two-words b r) in
       one-more y (h .0) (join ys ++ b) (length (join ys)) p (last-start ys b (h .1)) ((y ++ join ys) ++ b) (append-assoc y (join ys) b) k l g ∙ sym (length-append y (join ys))
 
   -- the bookmark that is taken of a page of records
-  pub mark-is : (t page mark : List ℕ) (used r : ℕ) (ys : List Record) (b : Record) (behind : List ℕ) → TypesAt f t → All (Readable f) (ys ++ (b ∷ [])) → page ≡ join (ys ++ (b ∷ [])) ++ behind → used ≡ length (join (ys ++ (b ∷ []))) → Marked t page used mark r → take r mark ≡ b
+  pub mark-is : (t page mark : List ℕ) (used r : ℕ) (ys : List Record) (b : Record) (behind : List ℕ) → TypesAt f t → All (ReadBy (recordSize f)) (ys ++ (b ∷ [])) → page ≡ join (ys ++ (b ∷ [])) ++ behind → used ≡ length (join (ys ++ (b ∷ []))) → Marked t page used mark r → take r mark ≡ b
   mark-is t page mark used r ys b behind a h e u m =
       let j : join (ys ++ (b ∷ [])) ≡ join ys ++ b = join-snoc ys b in
       let w : take used page ≡ join ys ++ b = ap (take used) e ∙ (take-front used (join (ys ++ (b ∷ []))) behind (sym u) ∙ j) in
       let z : used ≡ length (join ys ++ b) = u ∙ ap length j in
       let l : LastRecord t (join ys ++ b) (used - r) = subst (λ (v : List ℕ). LastRecord t v (used - r)) w (m .last) in
-      let p : 0 < length (join ys ++ b) = omega (arith, length-append (join ys) b, two-words b (all-right (Readable f) ys (b ∷ []) h .0)) in
+      let p : 0 < length (join ys ++ b) = omega (arith, length-append (join ys) b, two-words b (all-right (ReadBy (recordSize f)) ys (b ∷ []) h .0)) in
       let (k, s, g) = l .is f a p in
       let at : used - r ≡ length (join ys) = s ∙ last-start ys b h k (omega (arith, s, l .inside p)) g in
       let whole : page ≡ join ys ++ (b ++ behind) = e ∙ (ap (λ (v : List ℕ). v ++ behind) j ∙ append-assoc (join ys) b behind) in

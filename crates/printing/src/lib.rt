@@ -2,6 +2,7 @@
 // are those of a host's run, which hold the full listing; the text itself is tested.
 mod bookmark;
 mod lines;
+mod one_part;
 mod pages;
 mod places;
 mod record_ends;

@@ -37,7 +37,7 @@ fn put_variable(out: &mut Buffer, n: usize, types: &[u16], variable: usize) -> u
 }
 
 // The first line: the variables present, rising, with their types.
-pub fn put_types(out: &mut Buffer, types: &[u16; 48]) -> usize {
+pub fn put_types(out: &mut Buffer, types: &[u16; 72]) -> usize {
     let mut end = put_text(out, 0, b"types");
     let mut variable: usize = 0;
     while variable < 8 {

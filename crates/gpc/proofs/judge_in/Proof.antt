@@ -27,7 +27,7 @@ same-length c = search needs
 
 -- src/lib.rt:62:1
 returns : tie.Need-returns
-returns c = (search needs, record { is = drop-part 20000 (c .before .before .judge .last .1 .1 .1 .1 .0) _ (search needs) })
+returns c = (search needs, record { is = drop-part 20000 (c .before .before .judge .last .1 .1 .1 .0) _ (search needs) })
 
 pub judge-in-spec : {M : Type 1} → statement M
 judge-in-spec =

@@ -1,4 +1,4 @@
-use Rattle.gpc.proofs.Causes.{image-refused, pattern-refused, restrictor-refused, work-refused, nothing-refused}
+use Rattle.gpc.proofs.Causes.{image-refused, laid-out, nothing-refused, query-refused, restrictor-refused, work-refused}
 use native.Mathlib.Omega.{arith}
 use borrow.Author.Needs.{needs}
 use Rattle.gpc.proofs.fixed.first_cause.Statement.{statement}
@@ -20,10 +20,10 @@ is-refused-requires-2 : tie.Need-is-refused-requires-2
 is-refused-requires-2 c κs = search needs
 
 returns-2 : tie.Need-returns-2
-returns-2 c = search (pattern-refused, arith)
+returns-2 c = search (query-refused, arith)
 
-is-restrictor-requires : tie.Need-is-restrictor-requires
-is-restrictor-requires c κs = search needs
+restrictors-fine-requires : tie.Need-restrictors-fine-requires
+restrictors-fine-requires c κs = search (laid-out, arith)
 
 returns-3 : tie.Need-returns-3
 returns-3 c = search (restrictor-refused, arith)
@@ -44,7 +44,7 @@ first-cause-spec =
     check-requires
     is-refused-requires-2
     returns-2
-    is-restrictor-requires
+    restrictors-fine-requires
     returns-3
     returns-4
     returns-5)

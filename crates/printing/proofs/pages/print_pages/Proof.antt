@@ -7,10 +7,10 @@ use Rattle.printing.proofs.pages.print_pages.Statement.{statement}
 use Rattle.printing.proofs.pages.print_pages.Tie as tie
 
 abbrev Inv-loop : tie.InvT-loop
-Inv-loop out₀ image pattern restrictor types page₀ report₀ count₀ out page report count = Shown image pattern restrictor page report count × TypesOf pattern types
+Inv-loop out₀ image query types page₀ report₀ count₀ out page report count = Shown image query page report count × TypesOf query types
 
 abbrev μ-loop : tie.MeasureT-loop
-μ-loop out₀ image pattern restrictor types page₀ report₀ count₀ out page report count = toCome image pattern restrictor page report
+μ-loop out₀ image query types page₀ report₀ count₀ out page report count = toCome image query page report
 
 print-page-requires : tie.Need-print-page-requires Inv-loop μ-loop
 print-page-requires c κs = search (first-used, arith)
@@ -42,7 +42,7 @@ loop-less c = search (next-less, arith)
 loop-again : tie.Need-loop-again Inv-loop μ-loop
 loop-again c =
     let d = c .before .before .before .before .before .before .before .before .before .before in
-    (next-shown _ _ _ _ _ _ (d .before .before .before .loop .inv .0) _ (d .before .number-of2 .ensures) (d .if1 .taken) _ _ _ (d .before .before .before .loop .inv .1) (c .before .before .before .before .before .before .before .fill-next .ensures) _ _ (c .before .number-of3 .ensures) (c .wrapping-add-u64 .ensures), search needs)
+    (next-shown _ _ _ _ _ (d .before .before .before .loop .inv .0) _ (d .before .number-of2 .ensures) (d .if1 .taken) _ _ _ (d .before .before .before .loop .inv .1) (c .before .before .before .before .before .before .before .fill-next .ensures) _ _ (c .before .number-of3 .ensures) (c .wrapping-add-u64 .ensures), search needs)
 
 returns : tie.Need-returns Inv-loop μ-loop
 returns c = search (whole, arith)

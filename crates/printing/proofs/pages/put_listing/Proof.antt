@@ -1,12 +1,12 @@
 -- `printing::pages::put_listing` meets its contract. Assumes nothing.
-use Rattle.printing.proofs.Accepting.{no-pattern-fault}
+use Rattle.printing.proofs.Accepting.{no-query-fault}
 use native.Mathlib.Omega.{arith}
 use borrow.Author.Needs.{needs}
 use Rattle.printing.proofs.pages.put_listing.Statement.{statement}
 use Rattle.printing.proofs.pages.put_listing.Tie as tie
 
 types-of-requires : tie.Need-types-of-requires
-types-of-requires c κs = search (no-pattern-fault, arith)
+types-of-requires c κs = search (no-query-fault, arith)
 
 put-types-requires : tie.Need-put-types-requires
 put-types-requires c κs = search needs

@@ -1,9 +1,9 @@
--- `gpc::gpc_check_pattern` meets its contract. Assumes nothing.
+-- `gpc::gpc_check_query` meets its contract. Assumes nothing.
 use native.Mathlib.Omega.{arith}
 use Rattle.gpc.proofs.Ways.{no-check, checked, wide-enough}
 use borrow.Author.Needs.{needs}
-use Rattle.gpc.proofs.gpc_check_pattern.Statement.{statement}
-use Rattle.gpc.proofs.gpc_check_pattern.Tie as tie
+use Rattle.gpc.proofs.gpc_check_query.Statement.{statement}
+use Rattle.gpc.proofs.gpc_check_query.Tie as tie
 
 is-short-requires : tie.Need-is-short-requires
 is-short-requires c κs = search needs
@@ -35,8 +35,8 @@ same-length-3 c = search needs
 returns-2 : tie.Need-returns-2
 returns-2 c = search (checked, arith)
 
-pub gpc-check-pattern-spec : {M : Type 1} → statement M
-gpc-check-pattern-spec =
+pub gpc-check-query-spec : {M : Type 1} → statement M
+gpc-check-query-spec =
     tie.close
     (tie.spec
     is-short-requires
