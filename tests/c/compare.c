@@ -36,9 +36,7 @@ static void die(const char *what) {
     exit(2);
 }
 
-static int is_number(const char *name) {
-    return strcmp(name, "restrictor") == 0 || strcmp(name, "result") == 0;
-}
+static int is_number(const char *name) { return strcmp(name, "result") == 0; }
 
 static size_t width_of(const char *name) {
     return strncmp(name, "image", 5) == 0 || strncmp(name, "report", 6) == 0 ? 1 : 2;
@@ -147,18 +145,17 @@ static size_t items(struct sample *s, const char *name) { return field(s, name)-
 static uint64_t call(const char *sort, struct sample *s, int null) {
     if (strcmp(sort, "images") == 0)
         return gpc_read_image(lent(s, "image", null), items(s, "image"), lent(s, "report", null), items(s, "report"));
-    if (strcmp(sort, "tables") == 0)
-        return gpc_check_pattern(lent(s, "pattern", null), items(s, "pattern"), lent(s, "types", null), items(s, "types"),
-                                 lent(s, "report", null), items(s, "report"));
+    if (strcmp(sort, "queries") == 0)
+        return gpc_check_query(lent(s, "query", null), items(s, "query"), lent(s, "types", null), items(s, "types"),
+                               lent(s, "report", null), items(s, "report"));
     if (strcmp(sort, "records") == 0)
-        return gpc_judge_record(lent(s, "image", null), items(s, "image"), lent(s, "pattern", null), items(s, "pattern"),
-                                field(s, "restrictor")->number, lent(s, "record", null), items(s, "record"),
-                                lent(s, "work", null), items(s, "work"), lent(s, "report", null), items(s, "report"));
+        return gpc_judge_record(lent(s, "image", null), items(s, "image"), lent(s, "query", null), items(s, "query"),
+                                lent(s, "record", null), items(s, "record"), lent(s, "work", null), items(s, "work"),
+                                lent(s, "report", null), items(s, "report"));
     if (strcmp(sort, "pages") == 0 || strcmp(sort, "lists") == 0)
-        return gpc_fill_page(lent(s, "image", null), items(s, "image"), lent(s, "pattern", null), items(s, "pattern"),
-                             field(s, "restrictor")->number, lent(s, "bookmark", null), items(s, "bookmark"),
-                             lent(s, "page", null), items(s, "page"), lent(s, "work", null), items(s, "work"),
-                             lent(s, "report", null), items(s, "report"));
+        return gpc_fill_page(lent(s, "image", null), items(s, "image"), lent(s, "query", null), items(s, "query"),
+                             lent(s, "bookmark", null), items(s, "bookmark"), lent(s, "page", null), items(s, "page"),
+                             lent(s, "work", null), items(s, "work"), lent(s, "report", null), items(s, "report"));
     die("no such sort");
     return 0;
 }

@@ -1,5 +1,6 @@
-/* How much stack a call takes where it goes deepest: paths of 200 edges, groups two deep. A call runs on a thread whose stack was
- * filled with a known byte; what is no longer that byte was used. Prints the bytes of each call and fails above the header's bound. */
+/* How much stack a call takes where it goes deepest: four parts, paths of 200 edges, groups two deep, all eight variables and four
+ * names. A call runs on a thread whose stack was filled with a known byte; what is no longer that byte was used. Prints the bytes of
+ * each call and fails above the header's bound. */
 #include <pthread.h>
 #include <stdio.h>
 #include <stdlib.h>
@@ -7,14 +8,14 @@
 
 #include "gpc.h"
 
-enum { NODES = 200, STACK = 16 << 20, PAINT = 0xA5 };
+enum { NODES = 200, PARTS = 4, ROWS = 5, STACK = 16 << 20, PAINT = 0xA5 };
 
 static uint8_t image[65536];
 static size_t image_bytes;
-static uint16_t work[GPC_WORK_WORDS], rec[GPC_WORK_WORDS];
+static uint16_t query[1 + 3 * PARTS + 5 * ROWS * PARTS];
+static uint16_t work[GPC_WORK_WORDS], rec[GPC_WORK_WORDS], page[GPC_WORK_WORDS];
 static size_t rec_words;
 static uint8_t report[GPC_REPORT_BYTES];
-static uint16_t page[1024]; /* large enough for all that a call sets up, too small for the record */
 
 static void put(uint16_t v)
 {
@@ -40,18 +41,24 @@ static void make_cycle(void)
     }
 }
 
-/* A node and an edge, each with a variable, repeated, and that repeated again. */
-static const uint16_t nested[] = {1, 1, 0, 0, 0, 2, 2, 0, 0, 0, 6, 0, 1, 0, 0, 8, 2, 0, 1, 65535, 8, 3, 0, 1, 65535};
-
-/* Its record on the whole cycle with a factor for each edge, and in each factor a group of one: the deepest recursion. */
-static void put_step(uint16_t edge)
+/* Each part: a node and an edge, each with a variable of its own, repeated, and that repeated again; and a name for its path. Of the
+ * shortest the inner repetition has one factor: with more, all that is shorter would take minutes to rule out. */
+static void make_query(uint16_t restrictor)
 {
-    uint16_t step[] = {1, edge, edge, (uint16_t)((edge + 1) % NODES)};
-    memcpy(rec + rec_words, step, sizeof step);
-    rec_words += 4;
+    uint16_t *pattern = query + 1 + 3 * PARTS;
+    uint16_t inner = restrictor == GPC_SHORTEST_TRAIL ? 1 : 65535;
+    query[0] = PARTS;
+    for (uint16_t part = 0; part < PARTS; part++, pattern += 5 * ROWS) {
+        uint16_t head[] = {restrictor, (uint16_t)(9 + part), 5 * ROWS};
+        uint16_t rows[] = {1, (uint16_t)(2 * part + 1), 0, 0, 0, 2, (uint16_t)(2 * part + 2), 0, 0, 0,
+                           6, 0, 1, 0, 0, 8, 2, 0, 1, inner, 8, 3, 0, 1, 65535};
+        memcpy(query + 1 + 3 * part, head, sizeof head);
+        memcpy(pattern, rows, sizeof rows);
+    }
 }
 
-static void make_record(void)
+/* The whole cycle from node 0. */
+static void put_path(void)
 {
     rec[rec_words++] = NODES;
     for (uint16_t i = 0; i < NODES; i++) {
@@ -59,7 +66,22 @@ static void make_record(void)
         rec[rec_words++] = i;
     }
     rec[rec_words++] = 0;
-    for (int variable = 0; variable < 2; variable++) {
+}
+
+static void put_step(uint16_t edge)
+{
+    uint16_t step[] = {1, edge, edge, (uint16_t)((edge + 1) % NODES)};
+    memcpy(rec + rec_words, step, sizeof step);
+    rec_words += 4;
+}
+
+/* The record of the whole cycle in each part, with a factor for each edge and in each factor a group of one: the deepest recursion,
+ * and the longest record. */
+static void make_record(void)
+{
+    for (int part = 0; part < PARTS; part++)
+        put_path();
+    for (int variable = 0; variable < 2 * PARTS; variable++) {
         rec[rec_words++] = NODES;
         for (uint16_t i = 0; i < NODES; i++) {
             put_step(i);
@@ -68,12 +90,15 @@ static void make_record(void)
             rec[rec_words++] = i;
         }
     }
+    for (int part = 0; part < PARTS; part++)
+        put_path();
 }
 
+/* A page of no words is a call to judge. */
 struct call {
     const char *name;
-    uint64_t restrictor;
-    int judges;
+    uint16_t restrictor;
+    size_t page_words;
     uint64_t result;
 };
 
@@ -85,16 +110,16 @@ static uint64_t reported(int i)
     return v;
 }
 
-/* The page's call begins just before the record and has no room for it, so that it ends there. */
+/* A page's call begins just before the record and has no room for it, so that it ends there. */
 static void *run(void *arg)
 {
     struct call *c = arg;
-    if (c->judges)
-        c->result = gpc_judge_record(image, image_bytes, nested, sizeof nested / 2, c->restrictor, rec, rec_words, work, GPC_WORK_WORDS,
-                                     report, sizeof report);
+    size_t query_words = sizeof query / sizeof *query;
+    if (c->page_words == 0)
+        c->result = gpc_judge_record(image, image_bytes, query, query_words, rec, rec_words, work, GPC_WORK_WORDS, report, sizeof report);
     else
-        c->result = gpc_fill_page(image, image_bytes, nested, sizeof nested / 2, c->restrictor, rec, rec_words - 2, page,
-                                  sizeof page / sizeof *page, work, GPC_WORK_WORDS, report, sizeof report);
+        c->result = gpc_fill_page(image, image_bytes, query, query_words, rec, rec_words - 2, page, c->page_words, work,
+                                  GPC_WORK_WORDS, report, sizeof report);
     return NULL;
 }
 
@@ -114,21 +139,33 @@ static size_t used_by(struct call *c)
     return STACK - i;
 }
 
+/* Judged a record, or needing its words. */
+static int as_expected(const struct call *c)
+{
+    return c->page_words == 0 ? reported(2) == 1 : reported(0) == GPC_PAGE_TOO_SHORT && reported(5) == rec_words;
+}
+
 int main(void)
 {
+    /* A small page, and one that lacks a single word for the record. */
     struct call calls[] = {
-        {"judge a record", GPC_TRAIL, 1, 0},
-        {"fill a page", GPC_TRAIL, 0, 0},
+        {"judge a record, trail", GPC_TRAIL, 0, 0},
+        {"judge a record, shortest trail", GPC_SHORTEST_TRAIL, 0, 0},
+        {"fill a page of 1024, trail", GPC_TRAIL, 1024, 0},
+        {"fill a page of 1024, shortest trail", GPC_SHORTEST_TRAIL, 1024, 0},
+        {"fill a large page, trail", GPC_TRAIL, GPC_MOST_RECORD_WORDS - 1, 0},
+        {"fill a large page, shortest trail", GPC_SHORTEST_TRAIL, GPC_MOST_RECORD_WORDS - 1, 0},
     };
     size_t most = 0;
     make_cycle();
     make_record();
     for (size_t i = 0; i < sizeof calls / sizeof calls[0]; i++) {
+        make_query(calls[i].restrictor);
         size_t used = used_by(&calls[i]);
         if (used > most)
             most = used;
         printf("%s: %zu bytes of stack\n", calls[i].name, used);
-        if (calls[i].judges ? reported(2) != 1 : reported(5) != rec_words) {
+        if (!as_expected(&calls[i])) {
             printf("stack: the call went astray: 0 passed, 1 failed\n");
             return 1;
         }

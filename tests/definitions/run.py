@@ -12,31 +12,39 @@ import shutil
 import subprocess
 import sys
 import tempfile
+from collections import Counter
 
 ROOT = os.path.dirname(os.path.dirname(os.path.dirname(os.path.abspath(__file__))))
 ENUMERATOR = os.path.join(ROOT, "tests/enumerator/target/release/enumerator")
+
+# The names of crates/meaning: the proof that opens every definition, and the operations with the files that define them.
+OPENED = ("QueryOpened", "query-opened")
+READ = ("Operations", "readImage")
+CHECK = ("QueryListing", "checkQuery")
+JUDGE = ("QueryListing", "judgeRecord")
+FILL = ("QueryListing", "fillPage")
 
 HEAD = """-- Random calls, decided by the enumerator.
 use mathlib.Core.Path.{_≡_, refl}
 use mathlib.Core.List.{List, [], _∷_, _++_}
 use Prim.Native.Nat.{ℕ}
 use lib.ListN.{replicate}
-use Rattle.meaning.proofs.Opened.{opened}
-use Rattle.meaning.specs.Operations.{readImage, checkPattern, judgeRecord, fillPageLeft}
-
 """
 
 # What a definition takes, in order, and what it leaves; the prover is slow on large images and listings, which the later comparisons cover.
 CALLS = {
-    "images": ("readImage {image} {report}", ["report"]),
-    "tables": ("checkPattern {pattern} {types} {report}", ["types", "report"]),
-    "records": ("judgeRecord {image} {pattern} {restrictor} {record} {work} {report}", ["work", "report"]),
+    "images": (READ, "{image} {report}", ["report"]),
+    "queries": (CHECK, "{query} {types} {report}", ["types", "report"]),
+    "records": (JUDGE, "{image} {query} {record} {work} {report}", ["work", "report"]),
     "pages": (
-        "fillPageLeft {image} {pattern} {restrictor} {bookmark} (record {{ page = {page}; work = {work}; report = {report} }})",
+        FILL,
+        "{image} {query} {bookmark} (record {{ page = {page}; work = {work}; report = {report} }})",
         ["page", "work", "report"],
     ),
 }
-MOST = {"image": 140, "pattern": 50, "page": 400, "record": 400, "bookmark": 400}
+MOST = {"image": 110, "query": 80, "page": 250, "record": 250, "bookmark": 250}
+# Of one listing so many calls at most, so that a run goes over many listings.
+MOST_OF_ONE = 4
 
 
 def cases(sort, seed, count):
@@ -73,26 +81,42 @@ def term(name, text):
 
 
 def equation(sort, case):
-    call, left = CALLS[sort]
-    lent = {name: value if name == "restrictor" else term(name, value) for name, value in case.items() if name != "note" and not name.endswith("-after")}
+    (_, definition), takes, left = CALLS[sort]
+    lent = {name: term(name, value) for name, value in case.items() if name not in ("note", "result") and not name.endswith("-after")}
     fields = "; ".join(f"{name} = {term(name, case[name + '-after'])}" for name in left)
-    return f"{call.format(**lent)} ≡ record {{ result = {case['result']}; {fields} }}"
+    return f"{definition} {takes.format(**lent)} ≡ record {{ result = {case['result']}; {fields} }}"
+
+
+def head():
+    uses = [f"use Rattle.meaning.proofs.{OPENED[0]}.{{{OPENED[1]}}}"]
+    uses += [f"use Rattle.meaning.specs.{file}.{{{name}}}" for (file, name), _, _ in CALLS.values()]
+    return HEAD + "\n".join(uses) + "\n\n"
 
 
 def small(case):
     return all(size(name, case[name]) <= most for name, most in MOST.items() if name in case)
 
 
+def kept(sort, seed, count):
+    """Small calls, of which only a few are of one listing."""
+    found, listings = [], Counter()
+    for case in cases(sort, seed, 60 * count):
+        listing = (case.get("image"), case.get("query"))
+        listings[listing] += small(case)
+        if small(case) and listings[listing] <= MOST_OF_ONE:
+            found.append(case)
+    return found[:count]
+
+
 def module(seed, count):
-    names, text = [], HEAD
+    names, text = [], head()
     for sort in CALLS:
-        kept = [case for case in cases(sort, seed, 8 * count) if small(case)][:count]
-        for at, case in enumerate(kept):
+        for at, case in enumerate(kept(sort, seed, count)):
             name = f"{sort}-{at}"
             names.append(name)
-            text += f"{name} : {equation(sort, case)}\nunfolding opened\n{name} = refl\n\n"
-    wrong = "readImage [] (replicate 64 0) ≡ record { result = 1; report = 2 ∷ replicate 63 0 }"
-    return names, text + f"wrong : {wrong}\nunfolding opened\nwrong = refl\n"
+            text += f"{name} : {equation(sort, case)}\nunfolding {OPENED[1]}\n{name} = refl\n\n"
+    wrong = READ[1] + " [] (replicate 64 0) ≡ record { result = 1; report = 2 ∷ replicate 63 0 }"
+    return names, text + f"wrong : {wrong}\nunfolding {OPENED[1]}\nwrong = refl\n"
 
 
 def evaluate(text):

@@ -8,12 +8,12 @@ use std::process::ExitCode;
 const HELP: &str = "\
 enumerator listing            read a listing's input from standard input, print the listing
 enumerator images SEED COUNT  comparison cases: reading an image
-enumerator tables SEED COUNT  comparison cases: checking a pattern
+enumerator queries SEED COUNT comparison cases: checking a query
 enumerator records SEED COUNT comparison cases: judging a record
 enumerator pages SEED COUNT   comparison cases: filling a page
 enumerator lists SEED COUNT   comparison cases: lists of calls to fill a page
 enumerator listings SEED COUNT comparison cases: what the program prints
-enumerator time IMAGE PATTERN RESTRICTOR SECONDS  a listing timed: answers, words, seconds; 'over' after SECONDS
+enumerator time IMAGE QUERY SECONDS  a listing timed: answers, words, seconds; 'over' after SECONDS
 enumerator help               this text
 ";
 
@@ -26,8 +26,8 @@ fn main() -> ExitCode {
             (Ok(seed), Ok(count)) => comparison(sort, seed, count),
             _ => help(ExitCode::FAILURE),
         },
-        ["time", image, pattern, restrictor, seconds] => match (restrictor.parse(), seconds.parse()) {
-            (Ok(restrictor), Ok(seconds)) => time(image, pattern, restrictor, seconds),
+        ["time", image, query, seconds] => match seconds.parse() {
+            Ok(seconds) => time(image, query, seconds),
             _ => help(ExitCode::FAILURE),
         },
         ["help"] => help(ExitCode::SUCCESS),
@@ -51,8 +51,8 @@ fn listing() -> io::Result<ExitCode> {
     Ok(ExitCode::SUCCESS)
 }
 
-fn time(image: &str, pattern: &str, restrictor: u64, seconds: f64) -> io::Result<ExitCode> {
-    println!("{}", timed::time(&fs::read(image)?, &fs::read(pattern)?, restrictor, seconds));
+fn time(image: &str, query: &str, seconds: f64) -> io::Result<ExitCode> {
+    println!("{}", timed::time(&fs::read(image)?, &fs::read(query)?, seconds));
     Ok(ExitCode::SUCCESS)
 }
 

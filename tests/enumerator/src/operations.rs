@@ -2,9 +2,10 @@
 
 use crate::image;
 use crate::listing::Listing;
+use crate::query;
 use crate::record::Record;
 use crate::refusal::Refusal;
-use crate::typing::{check, type_words, TYPE_WORDS};
+use crate::typing::{type_words, TYPE_WORDS};
 
 pub const REPORT_BYTES: usize = 64;
 pub const WORK_WORDS: usize = 20_000;
@@ -22,16 +23,16 @@ pub fn read_image(image: &[u8], report: &mut [u8]) -> u64 {
     }
 }
 
-pub fn check_pattern(pattern: &[u16], types: &mut [u16], report: &mut [u8]) -> u64 {
+pub fn check_query(query: &[u16], types: &mut [u16], report: &mut [u8]) -> u64 {
     if report.len() < REPORT_BYTES {
         return 0;
     }
     if types.len() < TYPE_WORDS {
         return tell(report, refused(Refusal::of(17)));
     }
-    match check(pattern) {
-        Ok((_, found)) => {
-            types[..TYPE_WORDS].copy_from_slice(&type_words(&found));
+    match query::check(query) {
+        Ok(found) => {
+            types[..TYPE_WORDS].copy_from_slice(&type_words(&found.types));
             tell(report, [0; 8])
         }
         Err(cause) => {
@@ -41,27 +42,19 @@ pub fn check_pattern(pattern: &[u16], types: &mut [u16], report: &mut [u8]) -> u
     }
 }
 
-pub fn judge_record(
-    image: &[u8],
-    pattern: &[u16],
-    restrictor: u64,
-    record: &[u16],
-    work: &mut [u16],
-    report: &mut [u8],
-) -> u64 {
-    Listing::new(image, pattern, restrictor).judge(record, work, report)
+pub fn judge_record(image: &[u8], query: &[u16], record: &[u16], work: &mut [u16], report: &mut [u8]) -> u64 {
+    Listing::new(image, query).judge(record, work, report)
 }
 
 pub fn fill_page(
     image: &[u8],
-    pattern: &[u16],
-    restrictor: u64,
+    query: &[u16],
     bookmark: &[u16],
     page: &mut [u16],
     work: &mut [u16],
     report: &mut [u8],
 ) -> u64 {
-    Listing::new(image, pattern, restrictor).fill_page(bookmark, page, work, report)
+    Listing::new(image, query).fill_page(bookmark, page, work, report)
 }
 
 impl Listing {

@@ -1,20 +1,20 @@
 //! Records: the words of an answer, and the answer that words stand for.
 
-use crate::answers::Answer;
 use crate::graph::{Edge, Node};
+use crate::joins::Answer;
 use crate::path::Path;
 use crate::typing::{Type, Types};
-use crate::value::Value;
+use crate::value::{Assignment, Value};
 
 pub type Record = Vec<u16>;
 
 const NOTHING: u16 = 65535;
 
-/// The order of records, word by word with a proper beginning first, is the order of
+/// The paths in part order, then the values by rising variable, path names last. The order of records, word by word with a proper beginning first, is the order of
 /// vectors of words.
 pub fn write(answer: &Answer) -> Record {
-    let (path, assignment) = answer;
-    let mut words = path_words(path);
+    let (paths, assignment) = answer;
+    let mut words: Record = paths.iter().flat_map(path_words).collect();
     for value in assignment.values() {
         words.extend(value_words(value));
     }
@@ -33,6 +33,7 @@ fn value_words(value: &Value) -> Record {
     match value {
         Value::Node(node) => vec![node.0],
         Value::Edge(edge) => vec![edge.0],
+        Value::Path(path) => path_words(path),
         Value::Nothing => vec![NOTHING],
         Value::Group(factors) => {
             let mut words = vec![factors.len() as u16];
@@ -45,17 +46,22 @@ fn value_words(value: &Value) -> Record {
     }
 }
 
-/// The answer that the first words stand for, and the words left over. The types say
-/// where each value ends.
-pub fn read<'a>(types: &Types, words: &'a [u16]) -> Option<(Answer, &'a [u16])> {
-    let (path, mut rest) = read_path(words)?;
-    let mut assignment = crate::value::Assignment::new();
+/// The answer that the first words stand for, and the words left over. The number of
+/// parts says how many paths there are, the types where each value ends.
+pub fn read<'a>(parts: usize, types: &Types, words: &'a [u16]) -> Option<(Answer, &'a [u16])> {
+    let (mut paths, mut rest) = (Vec::new(), words);
+    for _ in 0..parts {
+        let (path, left) = read_path(rest)?;
+        paths.push(path);
+        rest = left;
+    }
+    let mut assignment = Assignment::new();
     for (variable, one) in types {
         let (value, left) = read_value(one, rest)?;
         assignment.insert(*variable, value);
         rest = left;
     }
-    Some(((path, assignment), rest))
+    Some(((paths, assignment), rest))
 }
 
 fn read_path(words: &[u16]) -> Option<(Path, &[u16])> {
@@ -73,6 +79,7 @@ fn read_path(words: &[u16]) -> Option<(Path, &[u16])> {
 fn read_value<'a>(one: &Type, words: &'a [u16]) -> Option<(Value, &'a [u16])> {
     let (first, rest) = words.split_first()?;
     match one {
+        Type::Path => read_path(words).map(|(path, rest)| (Value::Path(path), rest)),
         Type::Node => Some((Value::Node(Node(*first)), rest)),
         Type::Edge => Some((Value::Edge(Edge(*first)), rest)),
         Type::Maybe(_) if *first == NOTHING => Some((Value::Nothing, rest)),

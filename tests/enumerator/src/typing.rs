@@ -9,6 +9,7 @@ use std::collections::BTreeMap;
 pub enum Type {
     Node,
     Edge,
+    Path,
     Maybe(Box<Type>),
     Group(Box<Type>),
 }
@@ -16,9 +17,10 @@ pub enum Type {
 /// The schema: the type of each variable present.
 pub type Types = BTreeMap<Variable, Type>;
 
-pub const TYPE_WORDS: usize = 48;
+/// Six for each of the variables 1 to 8 and the path names 9 to 12.
+pub const TYPE_WORDS: usize = 72;
 
-/// All of the checker's causes but 17: 11 to 15 from the table, then 16.
+/// The causes that one part's pattern may give: 11 to 15 from the table, then 16.
 pub fn check(words: &[u16]) -> Result<(Pattern, Types), Refusal> {
     let pattern = table::read(words)?;
     let types = types(&pattern).map_err(|row| Refusal::at(16, row))?;
@@ -37,7 +39,7 @@ pub fn types(pattern: &Pattern) -> Result<Types, usize> {
         }
         Form::Concatenation(left, right) => {
             let (left, right) = both(types(left), types(right))?;
-            concatenation(left, right).map_or(faulty, Ok)
+            joined(left, right).map_or(faulty, Ok)
         }
         Form::Conditioned(part, condition) => {
             let types = types(part)?;
@@ -88,7 +90,8 @@ fn union(left: Types, right: Types) -> Option<Types> {
     Some(joined)
 }
 
-fn concatenation(left: Types, right: Types) -> Option<Types> {
+/// The rule of concatenations, and of joins: a variable of both is Node in both or Edge in both.
+pub fn joined(left: Types, right: Types) -> Option<Types> {
     let mut joined = left;
     for (variable, other) in right {
         match joined.get(&variable) {
@@ -114,13 +117,14 @@ impl Type {
         match self {
             Type::Node => vec![1],
             Type::Edge => vec![2],
+            Type::Path => vec![5],
             Type::Maybe(inner) => [vec![3], inner.numbers()].concat(),
             Type::Group(inner) => [vec![4], inner.numbers()].concat(),
         }
     }
 }
 
-/// Six numbers for each variable, variable 1 first, zeros where there is nothing.
+/// Six numbers for each variable and path name, variable 1 first, zeros where there is nothing.
 pub fn type_words(types: &Types) -> [u16; TYPE_WORDS] {
     let mut words = [0; TYPE_WORDS];
     for (variable, one) in types {

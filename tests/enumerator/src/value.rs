@@ -9,6 +9,7 @@ use std::collections::BTreeMap;
 pub enum Value {
     Node(Node),
     Edge(Edge),
+    Path(Path),
     Nothing,
     /// Each factor's path with the variable's value there, in walk order.
     Group(Vec<(Path, Value)>),

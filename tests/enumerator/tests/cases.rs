@@ -1,7 +1,7 @@
 //! The text of comparison cases reads back to calls with the outcome it states.
 
 use enumerator::cases;
-use enumerator::operations::{check_pattern, fill_page, judge_record, read_image};
+use enumerator::operations::{check_query, fill_page, judge_record, read_image};
 use enumerator::program;
 use std::collections::BTreeMap;
 
@@ -60,10 +60,10 @@ fn images() {
 }
 
 #[test]
-fn tables() {
-    for case in read("tables", 5, 300) {
+fn queries() {
+    for case in read("queries", 5, 300) {
         let (mut types, mut report) = (words(&case, "types"), bytes(&case, "report"));
-        let result = check_pattern(&words(&case, "pattern"), &mut types, &mut report);
+        let result = check_query(&words(&case, "query"), &mut types, &mut report);
         assert_eq!(result, number(&case, "result"));
         assert_eq!(types, words(&case, "types-after"));
         assert_eq!(report, bytes(&case, "report-after"));
@@ -73,10 +73,9 @@ fn tables() {
 #[test]
 fn records() {
     for case in read("records", 5, 200) {
-        let (image, pattern) = (bytes(&case, "image"), words(&case, "pattern"));
+        let (image, query, record) = (bytes(&case, "image"), words(&case, "query"), words(&case, "record"));
         let (mut work, mut report) = (words(&case, "work"), bytes(&case, "report"));
-        let (restrictor, record) = (number(&case, "restrictor"), words(&case, "record"));
-        let result = judge_record(&image, &pattern, restrictor, &record, &mut work, &mut report);
+        let result = judge_record(&image, &query, &record, &mut work, &mut report);
         assert_eq!(result, number(&case, "result"));
         assert_eq!(work, words(&case, "work-after"));
         assert_eq!(report, bytes(&case, "report-after"));
@@ -84,11 +83,10 @@ fn records() {
 }
 
 fn filled(case: &Case) {
-    let (image, pattern) = (bytes(case, "image"), words(case, "pattern"));
+    let (image, query, bookmark) = (bytes(case, "image"), words(case, "query"), words(case, "bookmark"));
     let (mut page, mut work) = (words(case, "page"), words(case, "work"));
     let mut report = bytes(case, "report");
-    let (restrictor, bookmark) = (number(case, "restrictor"), words(case, "bookmark"));
-    let result = fill_page(&image, &pattern, restrictor, &bookmark, &mut page, &mut work, &mut report);
+    let result = fill_page(&image, &query, &bookmark, &mut page, &mut work, &mut report);
     assert_eq!(result, number(case, "result"));
     assert_eq!(page, words(case, "page-after"));
     assert_eq!(work, words(case, "work-after"));

@@ -6,6 +6,7 @@ use enumerator::listing::Listing;
 use enumerator::machine::{run, Lent};
 use enumerator::operations::numbers;
 use enumerator::program;
+use enumerator::query::alone;
 
 const RECORDS: [&[u16]; 3] = [
     &[1, 0, 0, 1, 1, 1, 0, 0, 1, 0],
@@ -15,7 +16,7 @@ const RECORDS: [&[u16]; 3] = [
 
 #[test]
 fn t_and_p_have_three_records() {
-    assert_eq!(Listing::new(&t(), &P, 1).records, RECORDS);
+    assert_eq!(Listing::new(&t(), &alone(1, &P)).records, RECORDS);
 }
 
 #[test]
@@ -53,7 +54,7 @@ fn pages_of_ten_words_then_23_needing_17() {
 #[test]
 fn the_machine_gives_the_same_pages() {
     let call = Lent { page: vec![GUARD; 10], work: vec![GUARD; 20_003], report: vec![0xee; 64] };
-    let outcomes = run(&Listing::new(&t(), &P, 1), &vec![call; 4]);
+    let outcomes = run(&Listing::new(&t(), &alone(1, &P)), &vec![call; 4]);
     for (outcome, record) in outcomes.iter().zip(&RECORDS[..2]) {
         assert_eq!(numbers(&outcome.left.report), [0, 0, 1, 10, 0, 0, 0, 0]);
         assert_eq!(outcome.left.page, *record);

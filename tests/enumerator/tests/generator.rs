@@ -3,8 +3,9 @@
 
 mod common;
 use common::*;
+use enumerator::query::{self, alone, words};
 use enumerator::random::source::Source;
-use enumerator::random::{buffers, candidates, cost, damage, faults, graphs, subjects, tables};
+use enumerator::random::{buffers, candidates, cost, damage, faults, graphs, parts, queries, query_faults, subjects, tables};
 use std::collections::BTreeSet;
 
 #[test]
@@ -135,11 +136,91 @@ fn tables_of_any_sort_meet_every_refusal() {
     }
 }
 
+/// The checker does not see 21; all that the fixed things give cause for does.
+fn assert_refused(faulty: &query_faults::Faulty, ways: &[query_faults::Way]) {
+    let expected = (faulty.refusal.number, faulty.refusal.row);
+    let by_checker = if expected.0 == 21 { (0, 0) } else { expected };
+    assert_eq!(checked_query(&faulty.words), by_checker, "{ways:?} {:?}", faulty.words);
+    assert_eq!(cause(&plain(0, &[]), &faulty.words), expected, "{ways:?} {:?}", faulty.words);
+}
+
+#[test]
+fn each_fault_of_a_query_gives_its_refusal() {
+    let mut numbers = BTreeSet::new();
+    for way in query_faults::ALL {
+        for seed in 0..40 {
+            let faulty = query_faults::faulty(&mut Source::new(seed), &[way]);
+            assert_refused(&faulty, &[way]);
+            numbers.insert(faulty.refusal.number);
+        }
+    }
+    assert_eq!(numbers, [11, 12, 16, 21, 31, 32, 33].into());
+}
+
+#[test]
+fn two_and_three_faults_of_a_query_give_the_earliest() {
+    let mut source = Source::new(14);
+    for one in query_faults::ALL {
+        for other in query_faults::ALL {
+            let faulty = query_faults::faulty(&mut source, &[one, other]);
+            assert_refused(&faulty, &[one, other]);
+        }
+    }
+    let mut seen = BTreeSet::new();
+    for _ in 0..4000 {
+        let ways = query_faults::ways(&mut source);
+        let faulty = query_faults::faulty(&mut source, &ways);
+        assert_refused(&faulty, &ways);
+        seen.insert((faulty.refusal.number, ways.len() > 1));
+    }
+    for number in (11..=16).chain([31, 32, 33]) {
+        assert!([false, true].iter().all(|others| seen.contains(&(number, *others))), "{number}");
+    }
+}
+
+#[test]
+fn sound_parts_fit_together() {
+    let mut source = Source::new(15);
+    let (mut counts, mut names, mut shared, mut apart) = ([0; 5], BTreeSet::new(), BTreeSet::new(), 0);
+    for _ in 0..3000 {
+        let parts = parts::sound(&mut source);
+        let query = query::check(&words(&parts)).unwrap();
+        counts[parts.len()] += 1;
+        names.insert(parts.iter().map(|part| part.name).filter(|name| *name > 0).collect::<Vec<_>>());
+        let of_two = |variable: &&u16| query.parts.iter().filter(|part| part.types.contains_key(variable)).count() > 1;
+        let both: Vec<u16> = query.types.keys().filter(of_two).copied().collect();
+        apart += (parts.len() > 1 && both.is_empty()) as usize;
+        shared.extend(both.iter().map(|variable| query.types[variable].numbers()));
+    }
+    assert!(counts[1..].iter().all(|&count| count > 300), "{counts:?}");
+    assert!(names.len() > 40 && names.contains(&vec![12, 9]) && names.contains(&vec![9, 12]), "{names:?}");
+    assert_eq!(shared, [vec![1], vec![2]].into());
+    assert!(apart > 300, "{apart}");
+}
+
+#[test]
+fn queries_of_any_sort_meet_every_refusal() {
+    let mut source = Source::new(8);
+    let numbers: BTreeSet<u64> = (0..3000).map(|_| checked_query(&queries::any(&mut source).1).0).collect();
+    assert_eq!(numbers, [0, 11, 12, 13, 14, 15, 16, 31, 32, 33].into());
+}
+
+#[test]
+fn subjects_of_any_sort_meet_every_cause() {
+    let mut source = Source::new(16);
+    let mut numbers = BTreeSet::new();
+    for _ in 0..4000 {
+        let subject = subjects::any(&mut source);
+        numbers.insert(cause(&subject.image, &subject.query).0);
+    }
+    assert_eq!(numbers, (0..=7).chain(11..=16).chain([21, 31, 32, 33]).collect());
+}
+
 #[test]
 fn candidates_of_each_sort_occur_and_both_judgements() {
     let mut source = Source::new(10);
     let (mut seen, mut rewritten) = (BTreeSet::new(), BTreeSet::new());
-    for _ in 0..600 {
+    for _ in 0..1200 {
         let (_, listing) = subjects::fruitful(&mut source);
         let (sort, words) = candidates::any(&mut source, &listing);
         let yes = listing.records.contains(&words);
@@ -169,9 +250,24 @@ fn records_of_another_restrictor_are_judged_both_ways() {
     assert_eq!(judged, BTreeSet::from([false, true]));
 }
 
+/// Parts that share nothing, or are alike, have such records all the same.
+#[test]
+fn records_of_another_order_and_parts_side_by_side_are_judged_both_ways() {
+    let mut source = Source::new(17);
+    let (mut ordered, mut beside) = (BTreeSet::new(), BTreeSet::new());
+    for _ in 0..600 {
+        let (subject, listing) = subjects::fruitful(&mut source);
+        let judged = |words: Vec<u16>| listing.records.contains(&words);
+        ordered.extend(subjects::of_another_order(&mut source, &subject).map(judged));
+        beside.extend(subjects::side_by_side(&mut source, &subject).map(judged));
+    }
+    assert_eq!(ordered, BTreeSet::from([false, true]));
+    assert_eq!(beside, BTreeSet::from([false, true]));
+}
+
 #[test]
 fn a_line_fills_several_pages() {
-    let listing = subjects::Subject { image: graphs::line(28).image(), pattern: P.to_vec(), restrictor: 1 }.listing();
+    let listing = subjects::Subject { image: graphs::line(28).image(), query: alone(1, &P) }.listing();
     assert!(listing.records.iter().map(Vec::len).sum::<usize>() > 20_000);
 }
 
@@ -189,16 +285,25 @@ fn buffers_lie_on_both_sides_of_their_bounds() {
         assert!(lent.iter().any(|call| call.page.len() == length), "{length}");
     }
     assert!(lent.iter().any(|call| call.report.len() > 64 && call.work.len() > 20_000));
+    let types: Vec<usize> = (0..400).map(|_| buffers::types(&mut source).len()).collect();
+    assert!([0, 71, 72, 73].iter().all(|length| types.contains(length)));
 }
 
 #[test]
 fn the_cost_estimate_turns_away_what_would_blow_up() {
     let loops = plain(1, &[[0, 0, 1]; 12]);
-    assert!(!cost::affordable(&loops, &P, 1));
-    assert!(cost::affordable(&loops, &[1, 1, 0, 0, 0], 1));
-    assert!(cost::affordable(&t(), &P, 1));
+    assert!(!cost::affordable(&loops, &alone(1, &P)));
+    assert!(cost::affordable(&loops, &alone(1, &[1, 1, 0, 0, 0])));
+    assert!(cost::affordable(&t(), &alone(1, &P)));
     // Refused at once, so it costs nothing.
-    assert!(cost::affordable(&loops, &P, 0));
+    assert!(cost::affordable(&loops, &alone(0, &P)));
+    // Each part has 12 answers: two of them joined are cheap, four are not.
+    let edge: (u16, u16, &[[u16; 5]]) = (1, 0, &[[2, 0, 0, 0, 0]]);
+    assert!(cost::affordable(&loops, &query(&[edge; 2])));
+    assert!(!cost::affordable(&loops, &query(&[edge; 4])));
+    // Joined over their edge they are cheap again.
+    let same: (u16, u16, &[[u16; 5]]) = (1, 0, &[[2, 1, 0, 0, 0]]);
+    assert!(cost::affordable(&loops, &query(&[same; 4])));
 }
 
 #[test]

@@ -2,13 +2,15 @@
 
 mod common;
 use common::*;
-use enumerator::answers::{answers, paths, Restrictor};
+use enumerator::answers::{paths, Restrictor};
 use enumerator::graph::Graph;
+use enumerator::joins::{answers, Answer};
 use enumerator::meaning::assignments;
 use enumerator::path::Path;
+use enumerator::query::{self, alone, Query};
 use enumerator::random::source::Source;
 use enumerator::random::subjects;
-use enumerator::typing::{self, Type};
+use enumerator::typing::{type_words, Type};
 use enumerator::value::Value;
 use enumerator::{image, record};
 
@@ -26,6 +28,7 @@ fn conforms(value: &Value, one: &Type, path: &Path) -> bool {
     match (value, one) {
         (Value::Node(node), Type::Node) => path.nodes.contains(node),
         (Value::Edge(edge), Type::Edge) => path.edges.contains(edge),
+        (Value::Path(named), Type::Path) => named == path,
         (Value::Nothing, Type::Maybe(_)) => true,
         (value, Type::Maybe(inner)) => conforms(value, inner, path),
         (Value::Group(factors), Type::Group(inner)) => {
@@ -44,16 +47,24 @@ fn answers_are_paths_of_the_graph_and_conform_to_the_schema() {
     for _ in 0..600 {
         let subject = subjects::sound(&mut source);
         let graph = image::read(&subject.image).unwrap();
-        let (pattern, types) = typing::check(&subject.pattern).unwrap();
-        for (path, one) in answers(&graph, &pattern, Restrictor::of(subject.restrictor).unwrap()) {
-            assert!(in_graph(&graph, &path));
-            assert!(if subject.restrictor % 2 == 1 { path.is_trail() } else { path.is_simple() });
-            assert!(one.keys().eq(types.keys()));
-            assert!(one.iter().all(|(variable, value)| conforms(value, &types[variable], &path)), "{subject:?}");
+        let query = query::check(&subject.query).unwrap();
+        for (paths, one) in all(&graph, &query) {
+            assert_eq!(paths.len(), query.parts.len());
+            assert!(one.keys().eq(query.types.keys()));
+            for (path, part) in paths.iter().zip(&query.parts) {
+                assert!(in_graph(&graph, path));
+                assert!(if part.restrictor % 2 == 1 { path.is_trail() } else { path.is_simple() });
+                // A variable of two parts lies on both paths.
+                assert!(part.types.iter().all(|(variable, of)| conforms(&one[variable], of, path)), "{subject:?}");
+            }
             seen += 1;
         }
     }
     assert!(seen > 1000, "{seen}");
+}
+
+fn all(graph: &Graph, query: &Query) -> std::collections::BTreeSet<Answer> {
+    answers(graph, query, &query.restrictors().unwrap())
 }
 
 #[test]
@@ -68,14 +79,14 @@ fn records_rise_begin_no_other_and_read_back() {
         }
         for words in &listing.records {
             assert!(words.len() <= 20_000);
-            let (answer, rest) = record::read(&listing.types, words).unwrap();
+            let (answer, rest) = record::read(listing.parts, &listing.types, words).unwrap();
             assert!(rest.is_empty());
             assert_eq!(record::write(&answer), *words);
         }
         let all = listing.records.concat();
         let mut rest = &all[..];
         for words in &listing.records {
-            let (answer, left) = record::read(&listing.types, rest).unwrap();
+            let (answer, left) = record::read(listing.parts, &listing.types, rest).unwrap();
             assert_eq!(record::write(&answer), *words);
             rest = left;
         }
@@ -89,9 +100,8 @@ fn different_answers_have_different_records() {
     for _ in 0..300 {
         let (subject, listing) = subjects::fruitful(&mut source);
         let graph = image::read(&subject.image).unwrap();
-        let (pattern, _) = typing::check(&subject.pattern).unwrap();
-        let all = answers(&graph, &pattern, Restrictor::of(subject.restrictor).unwrap());
-        assert_eq!(all.len(), listing.records.len());
+        let query = query::check(&subject.query).unwrap();
+        assert_eq!(all(&graph, &query).len(), listing.records.len());
     }
 }
 
@@ -102,14 +112,14 @@ fn leaving_out_paths_that_are_too_long_changes_nothing() {
     for _ in 0..300 {
         let subject = subjects::sound(&mut source);
         let graph = image::read(&subject.image).unwrap();
-        let (pattern, _) = typing::check(&subject.pattern).unwrap();
+        let pattern = &query::check(&subject.query).unwrap().parts[0].pattern;
         let Some(longest) = pattern.longest() else { continue };
         let every = paths(&graph, Restrictor::Trail, usize::MAX);
         if every.len() > 5_000 {
             continue;
         }
         for path in every.iter().filter(|path| path.length() > longest && path.length() < 7) {
-            assert!(assignments(&graph, &pattern, path).is_empty(), "{subject:?}");
+            assert!(assignments(&graph, pattern, path).is_empty(), "{subject:?}");
             bounded += 1;
         }
     }
@@ -145,25 +155,34 @@ fn widest(count: u16) -> Vec<[u16; 5]> {
     rows
 }
 
-/// The most words a record of `edges` edges can have: each of 8 variables a group of
-/// groups, every edge a factor of both.
+/// The most words a record of paths of `edges` edges can have: four paths, each of 8
+/// variables a group of groups, every edge a factor of both, and four named paths.
 fn most_words(edges: usize) -> usize {
-    2 + 2 * edges + 8 * (1 + edges * (4 + 1 + 4 + 1))
+    8 * (2 + 2 * edges) + 8 * (1 + edges * (4 + 1 + 4 + 1))
 }
 
 #[test]
 fn the_longest_record_stays_under_20_000_words() {
     let count = 10;
-    let edges: Vec<[u16; 3]> = (0..count).map(|at| [at, (at + 1) % count, 1]).collect();
-    let graph = image::read(&plain(count as usize, &edges)).unwrap();
-    let (pattern, types) = typing::check(&widest(count).concat()).unwrap();
-    assert_eq!(typing::type_words(&types)[42..], [4, 4, 2, 0, 0, 0]);
-    let around = paths(&graph, Restrictor::Trail, usize::MAX).into_iter().filter(|path| path.length() == 10);
-    let records: Vec<_> = around
-        .flat_map(|path| assignments(&graph, &pattern, &path).into_iter().map(move |one| (path.clone(), one)))
-        .map(|answer| record::write(&answer))
-        .collect();
-    assert_eq!(records.len(), 10);
-    assert!(records.iter().all(|words| words.len() == most_words(10)));
-    assert_eq!(most_words(200), 16_410);
+    let line: Vec<[u16; 3]> = (0..count).map(|at| [at, at + 1, 1]).collect();
+    let image = plain(count as usize + 1, &line);
+    let rows = widest(count);
+    let whole: &[[u16; 5]] = &[[2, 0, 0, 0, 0], [8, 0, 0, count, count]];
+    let widest = query(&[(1, 12, whole), (2, 9, &rows), (3, 10, whole), (4, 11, whole)]);
+    let types = query::check(&widest).unwrap().types;
+    assert_eq!(type_words(&types)[42..], [[4, 4, 2, 0, 0, 0], [5, 0, 0, 0, 0, 0], [5, 0, 0, 0, 0, 0],
+        [5, 0, 0, 0, 0, 0], [5, 0, 0, 0, 0, 0]].concat());
+    let records = joined(&image, &widest);
+    assert_eq!(records.len(), 1);
+    assert_eq!(records[0].len(), most_words(10));
+    assert_eq!(most_words(200), 19_224);
+}
+
+/// A part with no path name has the listing that its pattern and restrictor had.
+#[test]
+fn one_part_with_a_name_has_its_path_written_again() {
+    let named = query(&[(1, 11, &[[2, 1, 0, 0, 0]])]);
+    let path_then_value = |words: &Vec<u16>| [&words[..], &words[..4]].concat();
+    let plain: Vec<Vec<u16>> = joined(&t(), &alone(1, &[2, 1, 0, 0, 0])).iter().map(path_then_value).collect();
+    assert_eq!(joined(&t(), &named), plain);
 }

@@ -16,14 +16,13 @@ fn host_run(subject: &Subject, listing: &Listing, calls: &[Lent]) -> Vec<Outcome
     for call in calls {
         let mut left = call.clone();
         let result = fill_page(
-            &subject.image, &subject.pattern, subject.restrictor,
-            &bookmark, &mut left.page, &mut left.work, &mut left.report,
+            &subject.image, &subject.query, &bookmark, &mut left.page, &mut left.work, &mut left.report,
         );
         if result == 1 {
             let told = numbers(&left.report);
             let mut rest = &left.page[..told[3] as usize];
             for _ in 0..told[2] {
-                let (answer, later) = record::read(&listing.types, rest).unwrap();
+                let (answer, later) = record::read(listing.parts, &listing.types, rest).unwrap();
                 bookmark = record::write(&answer);
                 rest = later;
             }
@@ -37,7 +36,7 @@ fn host_run(subject: &Subject, listing: &Listing, calls: &[Lent]) -> Vec<Outcome
 #[test]
 fn the_machine_equals_real_runs() {
     let mut source = Source::new(3);
-    let mut seen = [0; 30];
+    let mut seen = [0; 34];
     let mut finished = 0;
     for _ in 0..300 {
         let subject = subjects::any(&mut source);

@@ -3,6 +3,7 @@
 mod common;
 use common::*;
 use enumerator::program::print;
+use enumerator::query::alone;
 
 fn input(header: [u16; 3], image: &[u8], pattern: &[u16]) -> Vec<u8> {
     [bytes(&header), image.to_vec(), bytes(pattern)].concat()
@@ -66,7 +67,7 @@ fn of_a_long_pattern_321_words_are_used() {
 
 #[test]
 fn a_timed_listing_tells_answers_and_words() {
-    let told = enumerator::timed::time(&t(), &bytes(&P), 1, 600.0);
+    let told = enumerator::timed::time(&t(), &bytes(&alone(1, &P)), 600.0);
     assert!(told.starts_with("3 37 "), "{told}");
-    assert_eq!(enumerator::timed::time(&t(), &bytes(&P), 5, 600.0), "refused 21 row 0");
+    assert_eq!(enumerator::timed::time(&t(), &bytes(&alone(5, &P)), 600.0), "refused 21 row 0");
 }

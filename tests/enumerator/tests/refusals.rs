@@ -2,7 +2,8 @@
 
 mod common;
 use common::*;
-use enumerator::operations::{check_pattern, fill_page, judge_record, numbers, read_image};
+use enumerator::operations::{check_query, fill_page, judge_record, numbers, read_image};
+use enumerator::query::alone;
 use enumerator::random::malformed::all_malformed_rows;
 
 #[test]
@@ -196,32 +197,36 @@ fn checker_tries_causes_in_order() {
 
 #[test]
 fn checker_17_comes_first_and_leaves_the_area() {
-    for pattern in [&P[..], &[], &[9, 0, 0, 0, 0]] {
-        let (mut types, mut report) = ([GUARD; 47], [0xee; 64]);
-        assert_eq!(check_pattern(pattern, &mut types, &mut report), 1);
+    for query in [alone(1, &P), alone(1, &[]), alone(1, &[9, 0, 0, 0, 0]), vec![], vec![1, 1, 8, 0]] {
+        let (mut types, mut report) = ([GUARD; 71], [0xee; 64]);
+        assert_eq!(check_query(&query, &mut types, &mut report), 1);
         assert_eq!(numbers(&report), [17, 0, 0, 0, 0, 0, 0, 0]);
-        assert_eq!(types, [GUARD; 47]);
+        assert_eq!(types, [GUARD; 71]);
     }
 }
 
 #[test]
-fn checker_clears_48_words_and_no_more() {
-    let (mut types, mut report) = ([GUARD; 52], [0xee; 64]);
-    assert_eq!(check_pattern(&[9, 0, 0, 0, 0], &mut types, &mut report), 1);
-    assert_eq!(numbers(&report), [12, 0, 0, 0, 0, 0, 0, 0]);
-    assert_eq!((&types[..48], &types[48..]), (&[0; 48][..], &[GUARD; 4][..]));
+fn checker_clears_72_words_and_no_more() {
+    let clash = query(&[(1, 0, &[[1, 1, 0, 0, 0]]), (1, 0, &[[2, 1, 0, 0, 0]])]);
+    let refused = [(12, alone(1, &[9, 0, 0, 0, 0])), (31, vec![]), (32, vec![1, 1, 8, 0]), (33, clash)];
+    for (number, query) in refused {
+        let (mut types, mut report) = ([GUARD; 76], [0xee; 64]);
+        assert_eq!(check_query(&query, &mut types, &mut report), 1);
+        assert_eq!(numbers(&report), [number, 0, 0, 0, 0, 0, 0, 0]);
+        assert_eq!((&types[..72], &types[72..]), (&[0; 72][..], &[GUARD; 4][..]));
+    }
 }
 
 /// The report of judging with a work buffer of the given length, and that buffer.
-fn judged(image: &[u8], pattern: &[u16], restrictor: u64, record: &[u16], work: usize) -> ([u64; 8], Vec<u16>) {
+fn judged(image: &[u8], query: &[u16], record: &[u16], work: usize) -> ([u64; 8], Vec<u16>) {
     let (mut work, mut report) = (vec![GUARD; work], [0xee; 64]);
-    assert_eq!(judge_record(image, pattern, restrictor, record, &mut work, &mut report), 1);
+    assert_eq!(judge_record(image, query, record, &mut work, &mut report), 1);
     (numbers(&report), work)
 }
 
 #[test]
 fn judge_says_yes_and_no() {
-    let (told, work) = judged(&t(), &P, 1, &[1, 0, 0, 1, 1, 1, 0, 0, 1, 0], 20_003);
+    let (told, work) = judged(&t(), &alone(1, &P), &[1, 0, 0, 1, 1, 1, 0, 0, 1, 0], 20_003);
     assert_eq!(told, [0, 0, 1, 0, 0, 0, 0, 0]);
     assert!(cleared(&work));
     let misses: [&[u16]; 6] = [
@@ -233,7 +238,7 @@ fn judge_says_yes_and_no() {
         &[65535; 40],
     ];
     for record in misses {
-        let (told, work) = judged(&t(), &P, 1, record, 20_003);
+        let (told, work) = judged(&t(), &alone(1, &P), record, 20_003);
         assert_eq!(told, [0; 8], "{record:?}");
         assert!(cleared(&work));
     }
@@ -243,20 +248,26 @@ fn judge_says_yes_and_no() {
 fn judge_and_page_refuse_in_order() {
     let bad_image = plain(2, &[[0, 1, 1], [0, 5, 1]]);
     let bad_pattern = [1, 9, 0, 0, 0];
-    let cases: [(&[u8], &[u16], u64, usize, [u64; 2]); 6] = [
-        (&bad_image, &bad_pattern, 0, 0, [5, 1]),
-        (&t(), &bad_pattern, 0, 0, [12, 0]),
-        (&t(), &P, 0, 0, [21, 0]),
-        (&t(), &P, 5, 20_000, [21, 0]),
-        (&t(), &P, (1 << 32) + 1, 20_000, [21, 0]),
-        (&t(), &P, 4, 19_999, [22, 0]),
+    let (node, edge): (&[[u16; 5]], &[[u16; 5]]) = (&[[1, 1, 0, 0, 0]], &[[2, 1, 0, 0, 0]]);
+    let cases: [(&[u8], Vec<u16>, usize, [u64; 2]); 11] = [
+        (&bad_image, vec![], 0, [5, 1]),
+        (&t(), vec![], 0, [31, 0]),
+        (&t(), query(&[(0, 9, &[]), (0, 9, &[])]), 0, [32, 0]),
+        (&t(), alone(0, &bad_pattern), 0, [12, 0]),
+        (&t(), query(&[(1, 0, node), (0, 0, edge), (1, 0, &[])]), 0, [11, 0]),
+        (&t(), query(&[(1, 0, node), (0, 0, edge)]), 0, [33, 0]),
+        (&t(), query(&[(1, 0, node), (1, 0, node), (5, 0, node)]), 0, [21, 0]),
+        (&t(), alone(0, &P), 0, [21, 0]),
+        (&t(), alone(5, &P), 20_000, [21, 0]),
+        (&t(), alone(257, &P), 20_000, [21, 0]),
+        (&t(), alone(4, &P), 19_999, [22, 0]),
     ];
-    for (image, pattern, restrictor, length, expected) in cases {
-        let (told, work) = judged(image, pattern, restrictor, &[0; 4], length);
+    for (image, query, length, expected) in cases {
+        let (told, work) = judged(image, &query, &[0; 4], length);
         assert_eq!(told, [expected[0], expected[1], 0, 0, 0, 0, 0, 0]);
         assert!(work.iter().all(|&word| word == GUARD));
         let (mut page, mut work, mut report) = (vec![GUARD; 3], vec![GUARD; length], [0xee; 64]);
-        assert_eq!(fill_page(image, pattern, restrictor, &[], &mut page, &mut work, &mut report), 1);
+        assert_eq!(fill_page(image, &query, &[], &mut page, &mut work, &mut report), 1);
         assert_eq!(numbers(&report), [expected[0], expected[1], 0, 0, 0, 0, 0, 0]);
         assert_eq!(page, [GUARD; 3]);
         assert!(work.iter().all(|&word| word == GUARD));
@@ -304,14 +315,14 @@ fn a_page_stops_at_the_first_record_that_does_not_fit() {
 #[test]
 fn a_short_report_area_leaves_everything() {
     for length in [0, 1, 63] {
-        let (mut report, mut types) = (vec![0xee; length], [GUARD; 48]);
+        let (mut report, mut types) = (vec![0xee; length], [GUARD; 72]);
         let (mut page, mut work) = ([GUARD; 30], vec![GUARD; 20_000]);
         assert_eq!(read_image(&t(), &mut report), 0);
-        assert_eq!(check_pattern(&P, &mut types, &mut report), 0);
-        assert_eq!(judge_record(&t(), &P, 1, &[0], &mut work, &mut report), 0);
-        assert_eq!(fill_page(&t(), &P, 1, &[], &mut page, &mut work, &mut report), 0);
+        assert_eq!(check_query(&alone(1, &P), &mut types, &mut report), 0);
+        assert_eq!(judge_record(&t(), &alone(1, &P), &[0], &mut work, &mut report), 0);
+        assert_eq!(fill_page(&t(), &alone(1, &P), &[], &mut page, &mut work, &mut report), 0);
         assert_eq!(report, vec![0xee; length]);
-        assert_eq!((types, page), ([GUARD; 48], [GUARD; 30]));
+        assert_eq!((types, page), ([GUARD; 72], [GUARD; 30]));
         assert!(work.iter().all(|&word| word == GUARD));
     }
 }
@@ -326,8 +337,8 @@ fn a_long_report_area_keeps_what_is_past() {
 
 #[test]
 fn a_refused_listing_is_empty() {
-    assert_eq!(cause(&t(), &P, 0), (21, 0));
-    assert_eq!(cause(&t()[..9], &P, 0), (1, 0));
-    assert_eq!(cause(&t(), &P[..4], 0), (11, 0));
-    assert!(enumerator::listing::Listing::new(&t(), &P, 0).records.is_empty());
+    assert_eq!(cause(&t(), &alone(0, &P)), (21, 0));
+    assert_eq!(cause(&t()[..9], &alone(0, &P)), (1, 0));
+    assert_eq!(cause(&t(), &alone(0, &P[..4])), (11, 0));
+    assert!(enumerator::listing::Listing::new(&t(), &alone(0, &P)).records.is_empty());
 }

@@ -2,7 +2,8 @@
 
 mod common;
 use common::*;
-use enumerator::operations::{check_pattern, numbers};
+use enumerator::operations::{check_query, numbers};
+use enumerator::query::alone;
 use enumerator::random::patterns::{grow, Room};
 use enumerator::random::source::Source;
 use enumerator::pattern::{Form, Pattern};
@@ -10,10 +11,11 @@ use enumerator::typing::{types, Type};
 
 /// The six numbers of a variable.
 fn typed(rows: &[[u16; 5]], variable: usize) -> [u16; 6] {
-    let (mut words, mut report) = ([GUARD; 50], [0; 64]);
-    assert_eq!(check_pattern(&rows.concat(), &mut words, &mut report), 1);
+    let (mut words, mut report) = ([GUARD; 74], [0; 64]);
+    assert_eq!(check_query(&alone(1, &rows.concat()), &mut words, &mut report), 1);
     assert_eq!(numbers(&report), [0; 8]);
-    assert_eq!(words[48..], [GUARD; 2]);
+    assert_eq!(words[48..72], [0; 24]);
+    assert_eq!(words[72..], [GUARD; 2]);
     words[6 * (variable - 1)..6 * variable].try_into().unwrap()
 }
 

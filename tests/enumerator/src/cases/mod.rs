@@ -6,8 +6,8 @@ mod images;
 mod listings;
 mod lists;
 mod pages;
+mod queries;
 mod records;
-mod tables;
 
 use crate::random::source::Source;
 
@@ -15,7 +15,7 @@ use crate::random::source::Source;
 pub fn text(sort: &str, seed: u64, count: usize, write: &mut dyn FnMut(&str)) -> Option<()> {
     let batch = match sort {
         "images" => images::batch,
-        "tables" => tables::batch,
+        "queries" => queries::batch,
         "records" => records::batch,
         "pages" => pages::batch,
         "lists" => lists::batch,

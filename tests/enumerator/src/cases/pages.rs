@@ -24,10 +24,7 @@ pub fn batch(source: &mut Source) -> Vec<String> {
 
 /// What a listing keeps fixed.
 pub fn fixed(note: &str, subject: &Subject) -> Case {
-    Case::new(note)
-        .bytes("image", &subject.image)
-        .words("pattern", &subject.pattern)
-        .number("restrictor", subject.restrictor)
+    Case::new(note).bytes("image", &subject.image).words("query", &subject.query)
 }
 
 /// The rest that a call is lent, and how it leaves that.

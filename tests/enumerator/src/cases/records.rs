@@ -20,8 +20,12 @@ pub fn batch(source: &mut Source) -> Vec<String> {
         let words = candidates::candidate(source, &listing, sort);
         judged.extend(words.map(|words| (format!("{sort:?}"), words)));
     }
-    let other = subjects::of_another_restrictor(source, &subject);
-    judged.extend(other.map(|words| (String::from("OtherRestrictor"), words)));
+    let others = [
+        ("OtherRestrictor", subjects::of_another_restrictor(source, &subject)),
+        ("OtherOrder", subjects::of_another_order(source, &subject)),
+        ("SideBySide", subjects::side_by_side(source, &subject)),
+    ];
+    judged.extend(others.into_iter().filter_map(|(note, words)| Some((String::from(note), words?))));
     judged.iter().map(|(note, words)| case(source, note, &subject, &listing, words)).collect()
 }
 
@@ -29,8 +33,7 @@ fn case(source: &mut Source, note: &str, subject: &Subject, listing: &Listing, r
     let (mut work, mut report) = (buffers::work(source), buffers::report(source));
     let lent = Case::new(note)
         .bytes("image", &subject.image)
-        .words("pattern", &subject.pattern)
-        .number("restrictor", subject.restrictor)
+        .words("query", &subject.query)
         .words("record", record)
         .words("work", &work)
         .bytes("report", &report);

@@ -29,13 +29,15 @@ pub fn report(source: &mut Source) -> Vec<u8> {
     source.bytes(length)
 }
 
-/// Usually enough for the 48 words.
+/// Usually enough for the 72 words.
 pub fn types(source: &mut Source) -> Vec<u16> {
     let length = match source.below(30) {
-        0 => source.below(48),
-        1 => 47,
-        2..=6 => source.between(49, 60),
-        _ => 48,
+        0 => source.below(72),
+        1 => 71,
+        2 => 0,
+        3 | 4 => 73,
+        5 | 6 => source.between(74, 90),
+        _ => 72,
     };
     source.words(length)
 }

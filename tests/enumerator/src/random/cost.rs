@@ -1,29 +1,55 @@
 //! A cheap upper estimate of the work of a listing, so that no case blows up.
 
-use crate::answers::Restrictor;
 use crate::graph::{Edge, Graph, Node};
+use crate::joins::{join, of_part};
 use crate::path::steps;
 use crate::pattern::{Form, Pattern};
-use crate::{image, typing};
+use crate::query::{self, Query};
+use crate::image;
+use std::collections::BTreeSet;
 
 /// The most steps that a case may take by the estimate.
 const LIMIT: u64 = 60_000;
-/// The most paths that a case may walk.
+/// The most paths that a part may walk.
 const MOST_PATHS: u64 = 6_000;
+/// The most pairs of answers that the joins of a case may try.
+const MOST_PAIRS: usize = 20_000;
 
 /// Whether the listing is cheap enough. What is refused costs nothing.
-pub fn affordable(image: &[u8], pattern: &[u16], restrictor: u64) -> bool {
-    let (Ok(graph), Ok((pattern, _))) = (image::read(image), typing::check(pattern)) else { return true };
-    if Restrictor::of(restrictor).is_none() {
+pub fn affordable(image: &[u8], query: &[u16]) -> bool {
+    let (Ok(graph), Ok(query)) = (image::read(image), query::check(query)) else { return true };
+    if query.restrictors().is_none() {
         return true;
     }
+    let total = query.parts.iter().try_fold(0u64, |sum, part| Some(sum.saturating_add(bound(&graph, &part.pattern)?)));
+    total.is_some_and(|total| total <= LIMIT) && pairs(&graph, &query) <= MOST_PAIRS
+}
+
+/// At most so many steps for one part, or nothing if there are too many paths.
+fn bound(graph: &Graph, pattern: &Pattern) -> Option<u64> {
     let longest = pattern.longest().unwrap_or(usize::MAX).min(graph.edges.len());
-    let Some(lengths) = trail_lengths(&graph, longest) else { return false };
-    let work = work(&pattern, longest);
-    let total = lengths.iter().zip(&work.steps).fold(0u64, |sum, (paths, steps)| {
+    let lengths = trail_lengths(graph, longest)?;
+    let work = work(pattern, longest);
+    Some(lengths.iter().zip(&work.steps).fold(0u64, |sum, (paths, steps)| {
         sum.saturating_add(paths.saturating_mul(*steps))
-    });
-    total <= LIMIT
+    }))
+}
+
+/// How many pairs of answers the joins try, one part after the other; counted no further
+/// than over the bound. The parts themselves are affordable by then.
+fn pairs(graph: &Graph, query: &Query) -> usize {
+    let restrictors = query.restrictors().expect("looked at before");
+    let mut joined = BTreeSet::from([(vec![], Default::default())]);
+    let mut tried = 0;
+    for (part, restrictor) in query.parts.iter().zip(restrictors) {
+        let answers = of_part(graph, part, restrictor);
+        tried += joined.len() * answers.len();
+        if tried > MOST_PAIRS {
+            break;
+        }
+        joined = join(&joined, &answers);
+    }
+    tried
 }
 
 /// How many trails there are of each length, or none if there are too many. Simple

@@ -1,9 +1,9 @@
 //! What the program that prints a listing reads from standard input.
 
-use super::cost::affordable;
 use super::source::Source;
-use super::subjects::{self, Subject};
-use super::{graphs, tables};
+use super::subjects::Subject;
+use super::{damage, graphs, tables};
+use crate::query::alone;
 
 /// The input of a listing as it should be, then with its end cut off, with lengths that do not
 /// fit, or longer than its lengths say; now and then nothing but random bytes, or a long pattern.
@@ -28,19 +28,31 @@ pub fn input(image: &[u8], pattern: &[u16], restrictor: u16) -> Vec<u8> {
     bytes
 }
 
-fn of(subject: &Subject) -> Vec<u8> {
-    input(&subject.image, &subject.pattern, subject.restrictor as u16)
-}
-
-/// The restrictor is cut to 16 bits, and may then be another one: the listing may cost more
-/// than was estimated, so such a subject is drawn again.
+/// Image, pattern and restrictor of a listing that is cheap; now and then one of them
+/// gives cause for a refusal.
 fn whole(source: &mut Source) -> Vec<u8> {
     loop {
-        let subject = subjects::any(source);
-        if subject.restrictor <= u16::MAX as u64 {
-            return of(&subject);
+        let mut image = if source.one_in(5) { graphs::long(source) } else { graphs::small(source) }.image();
+        let size = source.below(7);
+        let mut pattern = if source.one_in(3) { tables::repeated(source, size) } else { tables::sound(source, size) };
+        let mut restrictor = source.between(1, 4) as u16;
+        match source.below(48) {
+            0..=2 => {
+                let way = source.pick(&damage::ALL);
+                image = damage::damaged(source, way).0;
+            }
+            3..=5 => pattern = tables::any(source).1,
+            6..=8 => restrictor = source.pick(&[0, 5, 257, 65535]),
+            _ => {}
+        }
+        if affordable(&image, &pattern, restrictor) {
+            return input(&image, &pattern, restrictor);
         }
     }
+}
+
+fn affordable(image: &[u8], pattern: &[u16], restrictor: u16) -> bool {
+    Subject { image: image.to_vec(), query: alone(restrictor, pattern) }.affordable()
 }
 
 fn cut_off(source: &mut Source) -> Vec<u8> {

@@ -3,6 +3,7 @@
 
 use enumerator::listing::Listing;
 use enumerator::operations::{numbers, Numbers};
+use enumerator::query::{alone, words, Part};
 
 /// The word that fills lent memory before a call.
 pub const GUARD: u16 = 0xa5c3;
@@ -41,30 +42,50 @@ pub fn plain(nodes: usize, edges: &[[u16; 3]]) -> Vec<u8> {
 }
 
 /// The records of a listing that nothing gives cause to refuse.
-pub fn records(image: &[u8], rows: &[[u16; 5]], restrictor: u64) -> Vec<Vec<u16>> {
-    let listing = Listing::new(image, &rows.concat(), restrictor);
+pub fn records(image: &[u8], rows: &[[u16; 5]], restrictor: u16) -> Vec<Vec<u16>> {
+    joined(image, &alone(restrictor, &rows.concat()))
+}
+
+/// The same of a query's words.
+pub fn joined(image: &[u8], query: &[u16]) -> Vec<Vec<u16>> {
+    let listing = Listing::new(image, query);
     assert_eq!(listing.cause, None);
     listing.records
 }
 
+/// The words of a query: for each part its restrictor, its path name and its rows.
+pub fn query(parts: &[(u16, u16, &[[u16; 5]])]) -> Vec<u16> {
+    let part = |(restrictor, name, rows): &(u16, u16, &[[u16; 5]])| Part {
+        restrictor: *restrictor,
+        name: *name,
+        pattern: rows.concat(),
+    };
+    words(&parts.iter().map(part).collect::<Vec<_>>())
+}
+
 /// The number and row by which the fixed things are refused; zeros if they are not.
-pub fn cause(image: &[u8], pattern: &[u16], restrictor: u64) -> (u64, u64) {
-    let listing = Listing::new(image, pattern, restrictor);
+pub fn cause(image: &[u8], query: &[u16]) -> (u64, u64) {
+    let listing = Listing::new(image, query);
     listing.cause.map_or((0, 0), |cause| (cause.number, cause.row))
 }
 
-/// The number and row of the checker alone.
+/// The number and row of the checker alone, for one part.
 pub fn checked(rows: &[[u16; 5]]) -> (u64, u64) {
     checked_words(&rows.concat())
 }
 
 pub fn checked_words(words: &[u16]) -> (u64, u64) {
-    let (mut types, mut report) = ([GUARD; 48], [0xee; 64]);
-    assert_eq!(enumerator::operations::check_pattern(words, &mut types, &mut report), 1);
+    checked_query(&alone(1, words))
+}
+
+/// The same for a query's words.
+pub fn checked_query(words: &[u16]) -> (u64, u64) {
+    let (mut types, mut report) = ([GUARD; 72], [0xee; 64]);
+    assert_eq!(enumerator::operations::check_query(words, &mut types, &mut report), 1);
     let told = numbers(&report);
     assert_eq!(told[2..], [0; 6]);
     if told[0] != 0 {
-        assert_eq!(types, [0; 48]);
+        assert_eq!(types, [0; 72]);
     }
     (told[0], told[1])
 }
@@ -85,11 +106,14 @@ pub struct Filled {
 }
 
 /// One page call with guarded memory; the work buffer has three words to spare.
-pub fn fill(image: &[u8], pattern: &[u16], restrictor: u64, bookmark: &[u16], page_words: usize) -> Filled {
+pub fn fill(image: &[u8], pattern: &[u16], restrictor: u16, bookmark: &[u16], page_words: usize) -> Filled {
+    fill_joined(image, &alone(restrictor, pattern), bookmark, page_words)
+}
+
+/// The same of a query's words.
+pub fn fill_joined(image: &[u8], query: &[u16], bookmark: &[u16], page_words: usize) -> Filled {
     let (mut page, mut work, mut report) = (vec![GUARD; page_words], vec![GUARD; 20_003], vec![0xee; 70]);
-    let result = enumerator::operations::fill_page(
-        image, pattern, restrictor, bookmark, &mut page, &mut work, &mut report,
-    );
+    let result = enumerator::operations::fill_page(image, query, bookmark, &mut page, &mut work, &mut report);
     assert_eq!(result, 1);
     assert_eq!(report[64..], [0xee; 6]);
     Filled { told: numbers(&report), page, work }
