@@ -2,7 +2,8 @@
 # make bench: listings against an enumerator in Rust, SQLite, PostgreSQL and networkx, and the judge's cost on ambiguous patterns; or, with
 #   BENCH_BEFORE=ARCHIVE, an archive of an earlier state against the present one.
 # make fuzz: the exported functions on made-up inputs, for FUZZ_SECONDS (60).
-# make run: the listing of a sample record, every chain of maps that leads to the present one; then the same for a person.
+# make run: two listings of a sample record, the chains of maps that lead to the present one, and the processors with the chains of
+#   their maps; each in numbers, then for a person.
 # make lib: the archive for C, target/staticlib/libgpc.a.
 # make install PREFIX=...: archive, header and pkg-config file under a folder; DESTDIR is put before it where files are staged.
 # make examples: the tools of examples/, in target/examples.

@@ -20,19 +20,19 @@ static void add_marks(const struct text *t, struct graph *g, int from, int of_ed
         char *equals = strchr(t->word[i], '=');
         if (equals == NULL) {
             m.name = number_of(t, &g->labels, t->word[i]);
-            g->label[one_more(t, &g->label_count, MOST_LABELS)] = m;
+            g->label[one_more(t, &g->label_count, GPC_MOST_LABELS)] = m;
         } else {
             *equals = '\0';
             m.name = number_of(t, &g->keys, t->word[i]);
             m.value = number_of(t, NULL, equals + 1);
-            g->property[one_more(t, &g->property_count, MOST_PROPERTIES)] = m;
+            g->property[one_more(t, &g->property_count, GPC_MOST_PROPERTIES)] = m;
         }
     }
 }
 
 static void add_node(const struct text *t, struct graph *g)
 {
-    size_t at = one_more(t, &g->node_count, MOST_NODES);
+    size_t at = one_more(t, &g->node_count, GPC_MOST_NODES);
     g->outer[at] = number_of(t, NULL, word_at(t, 1));
     add_name(t, &g->nodes, word_at(t, 2), (uint16_t)at);
     add_marks(t, g, 3, 0, at);
@@ -41,7 +41,7 @@ static void add_node(const struct text *t, struct graph *g)
 /* An undirected edge names its lower end first. */
 static void add_edge(const struct text *t, struct graph *g)
 {
-    size_t at = one_more(t, &g->edge_count, MOST_EDGES);
+    size_t at = one_more(t, &g->edge_count, GPC_MOST_EDGES);
     uint16_t first = number_of(t, &g->nodes, word_at(t, 1)), second = number_of(t, &g->nodes, word_at(t, 3));
     int directed = strcmp(word_at(t, 2), "->") == 0;
     if (!directed && strcmp(t->word[2], "--") != 0)
@@ -53,12 +53,12 @@ static void add_edge(const struct text *t, struct graph *g)
     add_marks(t, g, 4, 1, at);
 }
 
-static void add_row(const struct text *t, struct graph *g)
+static void add_to_graph(const struct text *t, struct graph *g)
 {
     if (strcmp(t->word[0], "labels") == 0)
-        add_line(t, &g->labels);
+        add_line(t, &g->labels, 1);
     else if (strcmp(t->word[0], "keys") == 0)
-        add_line(t, &g->keys);
+        add_line(t, &g->keys, 1);
     else if (strcmp(t->word[0], "node") == 0)
         add_node(t, g);
     else if (strcmp(t->word[0], "edge") == 0)
@@ -80,7 +80,7 @@ void read_graph(struct graph *g, const char *file)
     struct text t;
     memset(g, 0, sizeof *g);
     for (open_text(&t, file); next_line(&t);)
-        add_row(&t, g);
+        add_to_graph(&t, g);
     qsort(g->label, g->label_count, sizeof *g->label, by_element);
     qsort(g->property, g->property_count, sizeof *g->property, by_element);
 }

@@ -1,4 +1,4 @@
-/* A pattern, from text to the rows of a table. Not proved. */
+/* The pattern of a part, from text to the rows of a table. Not proved. */
 #include <string.h>
 
 #include "encode.h"
@@ -24,9 +24,10 @@ static const struct kind *kind_of(const struct text *t)
 }
 
 /* A dash stands for no variable and no label, a star for no bound. */
-static uint16_t use(const struct text *t, const struct pattern *p, const struct graph *g, char letter, const char *word)
+static uint16_t use(const struct text *t, const struct query *q, const struct graph *g, const struct part *p, char letter,
+                    const char *word)
 {
-    const struct names *names = letter == 'v' ? &p->variables : letter == 'l' ? &g->labels : letter == 'k' ? &g->keys
+    const struct names *names = letter == 'v' ? &q->variables : letter == 'l' ? &g->labels : letter == 'k' ? &g->keys
                               : letter == 'p' ? &p->rows : NULL;
     if ((letter == 'v' || letter == 'l') && strcmp(word, "-") == 0)
         return 0;
@@ -36,7 +37,7 @@ static uint16_t use(const struct text *t, const struct pattern *p, const struct 
 }
 
 /* A row: its name, =, its kind, and what the kind uses. */
-static void add_row(const struct text *t, struct pattern *p, const struct graph *g)
+void add_row(const struct text *t, const struct query *q, const struct graph *g, struct part *p)
 {
     if (strcmp(word_at(t, 1), "=") != 0)
         fault(t, "no = after", t->word[0]);
@@ -48,23 +49,9 @@ static void add_row(const struct text *t, struct pattern *p, const struct graph 
     row[0] = k->number;
     for (int i = 0; k->uses[i] != '\0'; i++)
         if (k->uses[i] != '.')
-            row[1 + i] = use(t, p, g, k->uses[i], word_at(t, at++));
+            row[1 + i] = use(t, q, g, p, k->uses[i], word_at(t, at++));
     if (at != t->words)
         fault(t, "a word too many", word_at(t, at));
     add_name(t, &p->rows, t->word[0], (uint16_t)(p->words / 5));
     p->words += 5;
-}
-
-void read_pattern(struct pattern *p, const struct graph *g, const char *file)
-{
-    struct text t;
-    memset(p, 0, sizeof *p);
-    for (open_text(&t, file); next_line(&t);) {
-        if (strcmp(t.word[0], "restrictor") == 0)
-            p->restrictor = number_of(&t, NULL, word_at(&t, 1));
-        else if (strcmp(t.word[0], "variables") == 0)
-            add_line(&t, &p->variables);
-        else
-            add_row(&t, p, g);
-    }
 }

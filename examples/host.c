@@ -1,8 +1,8 @@
-/* A host: lists all answers to a pattern over a record, page by page. Not proved; it is meant to be copied from.
+/* A host: lists all answers to a query over a record, page by page. Not proved; it is meant to be copied from.
  *
- *     host IMAGE PATTERN RESTRICTOR
+ *     host IMAGE QUERY
  *
- * IMAGE holds the bytes of a graph image, PATTERN the words of a table, low byte first (see encode.c). Prints the types, each record
+ * IMAGE holds the bytes of a graph image, QUERY the words of a query, low byte first (see encode.c). Prints the types, each record
  * on a line and the total, as the program that prints a listing does; lines that begin with # tell of the calls.
  */
 #include <inttypes.h>
@@ -12,15 +12,14 @@
 
 #include "record.h"
 
-/* Too small for most records on purpose, so that growing is seen. A host that wants it simple and fast lends 16,410 words or more:
+/* Too small for most records on purpose, so that growing is seen. A host that wants it simple and fast lends 19,224 words or more:
  * any record fits in them. */
 enum { FIRST_PAGE_WORDS = 4 };
 
-/* A listing keeps image, pattern and restrictor; the bookmark is all that goes from call to call. */
+/* A listing keeps image and query; the bookmark is all that goes from call to call. */
 struct listing {
     struct bytes image;
-    struct words pattern;
-    uint64_t restrictor;
+    struct words query;
     uint16_t types[GPC_TYPE_WORDS];
     struct words page;
     struct words bookmark;
@@ -34,14 +33,14 @@ static void check(struct listing *l)
 {
     gpc_read_image(l->image.at, l->image.count, l->report, sizeof l->report);
     stop_if_refused(l->report);
-    gpc_check_pattern(l->pattern.at, l->pattern.count, l->types, GPC_TYPE_WORDS, l->report, sizeof l->report);
+    gpc_check_query(l->query.at, l->query.count, l->types, GPC_TYPE_WORDS, l->report, sizeof l->report);
     stop_if_refused(l->report);
 }
 
 static void print_types(const uint16_t *types)
 {
     printf("types");
-    for (int v = 1; v <= VARIABLES; v++) {
+    for (int v = 1; v <= GPC_LAST_NAME; v++) {
         const uint16_t *type = type_of(types, v);
         if (type[0] == 0)
             continue;
@@ -66,7 +65,7 @@ static void keep_bookmark(struct listing *l, const uint16_t *record, size_t word
     memcpy(l->bookmark.at, record, words * sizeof *record);
 }
 
-/* Takes the records off the page; the types alone say where each one ends. */
+/* Takes the records off the page; the types and the number of parts, the query's first word, say where each one ends. */
 static void take_page(struct listing *l)
 {
     uint64_t records = reported(l->report, GPC_REPORT_RECORDS);
@@ -75,7 +74,7 @@ static void take_page(struct listing *l)
     printf("# page of %zu words: %" PRIu64 " placed\n", l->page.count, records);
     for (uint64_t i = 0; i < records; i++) {
         record += words;
-        words = record_words(l->types, record);
+        words = record_words(l->types, l->query.at[0], record);
         print_record(record, words);
     }
     if (records > 0)
@@ -95,8 +94,8 @@ static void grow_page(struct listing *l)
 /* One call. Whether another one is due. */
 static int list_page(struct listing *l)
 {
-    gpc_fill_page(l->image.at, l->image.count, l->pattern.at, l->pattern.count, l->restrictor, l->bookmark.at, l->bookmark.count,
-                  l->page.at, l->page.count, l->work, GPC_WORK_WORDS, l->report, sizeof l->report);
+    gpc_fill_page(l->image.at, l->image.count, l->query.at, l->query.count, l->bookmark.at, l->bookmark.count, l->page.at,
+                  l->page.count, l->work, GPC_WORK_WORDS, l->report, sizeof l->report);
     if (reported(l->report, GPC_REPORT_REFUSAL) == GPC_PAGE_TOO_SHORT) {
         grow_page(l);
         return 1;
@@ -109,13 +108,12 @@ static int list_page(struct listing *l)
 int main(int argc, char **argv)
 {
     static struct listing l;
-    if (argc != 4) {
-        fputs("usage: host IMAGE PATTERN RESTRICTOR\n", stderr);
+    if (argc != 3) {
+        fputs("usage: host IMAGE QUERY\n", stderr);
         return 2;
     }
     l.image = read_bytes(argv[1]);
-    l.pattern = read_words(argv[2]);
-    l.restrictor = strtoull(argv[3], NULL, 10);
+    l.query = read_words(argv[2]);
     resize(&l.page, FIRST_PAGE_WORDS);
     check(&l);
     print_types(l.types);
@@ -123,7 +121,7 @@ int main(int argc, char **argv)
         ;
     printf("done %" PRIu64 "\n", l.total);
     free(l.image.at);
-    free(l.pattern.at);
+    free(l.query.at);
     free(l.page.at);
     free(l.bookmark.at);
     return 0;

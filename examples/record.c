@@ -73,6 +73,14 @@ const uint16_t *type_of(const uint16_t *types, int variable) { return types + TY
 /* The number of edges, the edges, and one node more. */
 size_t path_words(const uint16_t *path) { return 2 + 2 * (size_t)path[0]; }
 
+size_t paths_words(size_t parts, const uint16_t *paths)
+{
+    size_t at = 0;
+    for (; parts > 0; parts--)
+        at += path_words(paths + at);
+    return at;
+}
+
 /* The count of a group, then for each factor its path and the value in it. */
 static size_t group_words(const uint16_t *inner, const uint16_t *group)
 {
@@ -91,15 +99,17 @@ size_t value_words(const uint16_t *type, const uint16_t *value)
         return value[0] == GPC_NOTHING ? 1 : value_words(type + 1, value);
     case GPC_TYPE_GROUP:
         return group_words(type + 1, value);
+    case GPC_TYPE_PATH:
+        return path_words(value);
     default:
         return 1;
     }
 }
 
-size_t record_words(const uint16_t *types, const uint16_t *record)
+size_t record_words(const uint16_t *types, size_t parts, const uint16_t *record)
 {
-    size_t at = path_words(record);
-    for (int v = 1; v <= VARIABLES; v++)
+    size_t at = paths_words(parts, record);
+    for (int v = 1; v <= GPC_LAST_NAME; v++)
         if (type_of(types, v)[0] != 0)
             at += value_words(type_of(types, v), record + at);
     return at;

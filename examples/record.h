@@ -7,7 +7,7 @@
 
 #include "gpc.h"
 
-enum { VARIABLES = 8, TYPE_DEPTH = GPC_TYPE_WORDS / VARIABLES };
+enum { TYPE_DEPTH = GPC_TYPE_WORDS / GPC_LAST_NAME };
 
 struct bytes {
     uint8_t *at;
@@ -34,13 +34,15 @@ uint64_t reported(const uint8_t *report, int i);
 /* Ends the program if a report says that the call was refused, telling number and row. */
 void stop_if_refused(const uint8_t *report);
 
-/* The six words of a variable's type, the variables counted from 1; the first is 0 where the variable is not used. */
+/* The six words of the type of a variable, 1 to 8, or a path name, 9 to 12; the first is 0 where no part uses it. */
 const uint16_t *type_of(const uint16_t *types, int variable);
 
-/* How many words a path, a value of a type, and a record take. They ask for words of a record of the listing, as the library places
- * them on a page: there every count is followed by what it counts. */
+/* How many words a path, the paths of some parts, a value of a type, and a record of a query of some parts take. They ask for words of
+ * a record of the listing, as the library places them on a page: there every count is followed by what it counts. The number of parts
+ * is the first word of the query. */
 size_t path_words(const uint16_t *path);
+size_t paths_words(size_t parts, const uint16_t *paths);
 size_t value_words(const uint16_t *type, const uint16_t *value);
-size_t record_words(const uint16_t *types, const uint16_t *record);
+size_t record_words(const uint16_t *types, size_t parts, const uint16_t *record);
 
 #endif

@@ -1,13 +1,13 @@
 /* Prints a graph image and a listing over it for a person. Not proved.
  *
- *     show IMAGE                              the graph
- *     show IMAGE PATTERN RESTRICTOR           the graph, and each record of the listing
- *     show --dot IMAGE                        the graph for Graphviz
- *     show --dot K IMAGE PATTERN RESTRICTOR   the same, the path of record K marked, records counted from 0
+ *     show IMAGE                 the graph
+ *     show IMAGE QUERY           the graph, and each record of the listing
+ *     show --dot IMAGE           the graph for Graphviz
+ *     show --dot K IMAGE QUERY   the same, the paths of record K marked, records counted from 0
  *
  * Nodes are shown by their outer numbers, edges by an e and their place in the image. Before all else may come --names TEXT, as often
- * as wanted, with the text that image or pattern was made from (see encode.c): labels, keys and variables then have the names given
- * there.
+ * as wanted, with the text that image or query was made from (see encode.c): labels, keys, variables and paths then have the names
+ * given there.
  */
 #include <stdio.h>
 #include <stdlib.h>
@@ -17,8 +17,7 @@
 
 struct show {
     struct view view;
-    struct words pattern;
-    uint64_t restrictor;
+    struct words query;
     size_t marked;
     int dot;
     uint16_t types[GPC_TYPE_WORDS];
@@ -31,7 +30,7 @@ static struct show show;
 static _Noreturn void usage(void)
 {
     fputs("usage: show [--names TEXT ..] [--dot] IMAGE\n"
-          "       show [--names TEXT ..] [--dot K] IMAGE PATTERN RESTRICTOR\n", stderr);
+          "       show [--names TEXT ..] [--dot K] IMAGE QUERY\n", stderr);
     exit(2);
 }
 
@@ -41,19 +40,21 @@ static void read_names(const char *file)
     static struct text t;
     for (open_text(&t, file); next_line(&t);) {
         if (strcmp(t.word[0], "labels") == 0)
-            add_line(&t, &show.view.labels);
+            add_line(&t, &show.view.labels, 1);
         else if (strcmp(t.word[0], "keys") == 0)
-            add_line(&t, &show.view.keys);
+            add_line(&t, &show.view.keys, 1);
         else if (strcmp(t.word[0], "variables") == 0)
-            add_line(&t, &show.view.variables);
+            add_line(&t, &show.view.variables, 1);
+        else if (strcmp(t.word[0], "paths") == 0)
+            add_line(&t, &show.view.paths, GPC_FIRST_NAME);
     }
 }
 
 /* The page after the bookmark. A page this long has room for any record, so that 23 does not come. */
 static void fill(size_t bookmark_words)
 {
-    gpc_fill_page(show.view.image.at, show.view.image.count, show.pattern.at, show.pattern.count, show.restrictor, show.bookmark,
-                  bookmark_words, show.page, GPC_WORK_WORDS, show.work, GPC_WORK_WORDS, show.report, sizeof show.report);
+    gpc_fill_page(show.view.image.at, show.view.image.count, show.query.at, show.query.count, show.bookmark, bookmark_words, show.page,
+                  GPC_WORK_WORDS, show.work, GPC_WORK_WORDS, show.report, sizeof show.report);
     stop_if_refused(show.report);
 }
 
@@ -61,10 +62,10 @@ static void fill(size_t bookmark_words)
 static int take(size_t number, const uint16_t *record)
 {
     if (!show.dot) {
-        printf("record %zu: ", number);
-        print_answer(&show.view, show.types, record);
+        int indent = printf("record %zu: ", number);
+        print_answer(&show.view, show.types, show.query.at[0], record, indent);
     } else if (number == show.marked) {
-        print_dot(&show.view, record);
+        print_dot(&show.view, show.query.at[0], record);
         return 0;
     }
     return 1;
@@ -80,7 +81,7 @@ static size_t each_record(void)
         words = 0;
         for (uint64_t left = reported(show.report, GPC_REPORT_RECORDS); left > 0; left--) {
             record += words;
-            words = record_words(show.types, record);
+            words = record_words(show.types, show.query.at[0], record);
             if (!take(taken, record))
                 return taken;
             taken++;
@@ -95,11 +96,10 @@ static size_t each_record(void)
     return taken;
 }
 
-static void list(char **argv)
+static void list(const char *file)
 {
-    show.pattern = read_words(argv[1]);
-    show.restrictor = strtoull(argv[2], NULL, 10);
-    gpc_check_pattern(show.pattern.at, show.pattern.count, show.types, GPC_TYPE_WORDS, show.report, sizeof show.report);
+    show.query = read_words(file);
+    gpc_check_query(show.query.at, show.query.count, show.types, GPC_TYPE_WORDS, show.report, sizeof show.report);
     stop_if_refused(show.report);
     size_t count = each_record();
     if (!show.dot)
@@ -122,7 +122,7 @@ static int options(int argc, char **argv)
     if (argc > at && strcmp(argv[at], "--dot") == 0) {
         show.dot = 1;
         at++;
-        if (argc == at + 4)
+        if (argc == at + 3)
             show.marked = strtoull(argv[at++], NULL, 10);
     }
     return at;
@@ -131,14 +131,14 @@ static int options(int argc, char **argv)
 int main(int argc, char **argv)
 {
     int at = options(argc, argv);
-    if (argc != at + 1 && argc != at + 3)
+    if (argc != at + 1 && argc != at + 2)
         usage();
     read_image(argv[at]);
     if (!show.dot)
         print_graph(&show.view);
     else if (argc == at + 1)
-        print_dot(&show.view, NULL);
-    if (argc == at + 3)
-        list(argv + at);
+        print_dot(&show.view, 0, NULL);
+    if (argc == at + 2)
+        list(argv[at + 1]);
     return 0;
 }

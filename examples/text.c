@@ -73,10 +73,10 @@ void add_name(const struct text *t, struct names *n, const char *name, uint16_t 
     n->number[n->count++] = number;
 }
 
-void add_line(const struct text *t, struct names *n)
+void add_line(const struct text *t, struct names *n, int from)
 {
     for (int i = 1; i < t->words; i++)
-        add_name(t, n, t->word[i], (uint16_t)(n->count + 1));
+        add_name(t, n, t->word[i], (uint16_t)(from + n->count));
 }
 
 uint16_t number_of(const struct text *t, const struct names *n, const char *word)

@@ -36,8 +36,8 @@ const char *word_at(const struct text *t, int at);
 
 void add_name(const struct text *t, struct names *n, const char *name, uint16_t number);
 
-/* Numbers the words of the line but the first, from 1 on. */
-void add_line(const struct text *t, struct names *n);
+/* Numbers the words of the line but the first, from a number on, further lines of the same names going on. */
+void add_line(const struct text *t, struct names *n, int from);
 
 /* What a word stands for: its number if it is a name, else the number that it writes. Names may be NULL, for none. */
 uint16_t number_of(const struct text *t, const struct names *n, const char *word);

@@ -5,10 +5,10 @@
 #include "record.h"
 #include "text.h"
 
-/* An image that the library accepted, and names for labels, keys and variables, where there are any. */
+/* An image that the library accepted, and names for labels, keys, variables and paths, where there are any. */
 struct view {
     struct bytes image;
-    struct names labels, keys, variables;
+    struct names labels, keys, variables, paths;
 };
 
 enum section { NODES, EDGES, LABELS, PROPERTIES };
@@ -23,10 +23,10 @@ void print_name(const struct names *n, uint16_t number);
 /* Nodes and edges, each on a line. */
 void print_graph(const struct view *v);
 
-/* The path of a record, and the values of its variables. */
-void print_answer(const struct view *v, const uint16_t *types, const uint16_t *record);
+/* The paths of a record, each on a line, all but the first indented; then the values of its variables, and its named paths. */
+void print_answer(const struct view *v, const uint16_t *types, size_t parts, const uint16_t *record, int indent);
 
-/* The graph for Graphviz, with a path marked unless it is NULL. */
-void print_dot(const struct view *v, const uint16_t *path);
+/* The graph for Graphviz, with the paths of some parts marked. */
+void print_dot(const struct view *v, size_t parts, const uint16_t *paths);
 
 #endif

@@ -61,30 +61,33 @@ void print_graph(const struct view *v)
 /* Whether a path goes through a node (parity 0) or an edge (parity 1): they alternate behind the number of edges. */
 static int on_path(const uint16_t *path, size_t parity, size_t number)
 {
-    for (size_t i = 1 + parity; path != NULL && i < path_words(path); i += 2)
+    for (size_t i = 1 + parity; i < path_words(path); i += 2)
         if (path[i] == number)
             return 1;
     return 0;
 }
 
-static const char *style(const uint16_t *path, size_t parity, size_t number)
+static const char *style(size_t parts, const uint16_t *paths, size_t parity, size_t number)
 {
-    return on_path(path, parity, number) ? " color=red penwidth=3" : "";
+    for (size_t i = 0; i < parts; i++)
+        if (on_path(paths + paths_words(i, paths), parity, number))
+            return " color=red penwidth=3";
+    return "";
 }
 
 /* A drawing has one sort of arrow in all; an undirected edge is one without a head. */
-void print_dot(const struct view *v, const uint16_t *path)
+void print_dot(const struct view *v, size_t parts, const uint16_t *paths)
 {
     printf("digraph record {\n");
     for (size_t i = 0; i < rows(v, NODES); i++) {
         printf("  n%zu [label=\"%d", i, cell(v, NODES, i, 0));
         print_marks(v, i);
-        printf("\"%s];\n", style(path, 0, i));
+        printf("\"%s];\n", style(parts, paths, 0, i));
     }
     for (size_t i = 0; i < rows(v, EDGES); i++) {
         printf("  n%d -> n%d [label=\"e%zu", cell(v, EDGES, i, 0), cell(v, EDGES, i, 1), i);
         print_marks(v, rows(v, NODES) + i);
-        printf("\"%s%s];\n", cell(v, EDGES, i, 2) ? "" : " dir=none", style(path, 1, i));
+        printf("\"%s%s];\n", cell(v, EDGES, i, 2) ? "" : " dir=none", style(parts, paths, 1, i));
     }
     printf("}\n");
 }

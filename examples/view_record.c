@@ -1,4 +1,4 @@
-/* A record as text for a person: its path, and the values of its variables. Not proved. */
+/* A record as text for a person: its paths, the values of its variables, and its named paths. Not proved. */
 #include <stdio.h>
 
 #include "view.h"
@@ -21,6 +21,12 @@ static void print_path(const struct view *v, const uint16_t *path)
         print_step(v, path[i - 1], path[i]);
         print_node(v, path[i + 1]);
     }
+}
+
+static void print_line(const struct view *v, const uint16_t *path)
+{
+    print_path(v, path);
+    printf("\n");
 }
 
 static void print_value(const struct view *v, const uint16_t *type, const uint16_t *value, int depth);
@@ -48,22 +54,31 @@ static void print_value(const struct view *v, const uint16_t *type, const uint16
         print_value(v, type + 1, value, depth);
     else if (type[0] == GPC_TYPE_GROUP)
         print_group(v, type + 1, value, depth);
+    else if (type[0] == GPC_TYPE_PATH)
+        print_line(v, value);
     else if (type[0] == GPC_TYPE_EDGE)
         printf("e%d\n", value[0]);
     else
         printf("%d\n", cell(v, NODES, value[0], 0));
 }
 
-void print_answer(const struct view *v, const uint16_t *types, const uint16_t *record)
+static void print_paths(const struct view *v, size_t parts, const uint16_t *paths, int indent)
 {
-    size_t at = path_words(record);
-    print_path(v, record);
-    printf("\n");
-    for (int x = 1; x <= VARIABLES; x++) {
+    for (size_t i = 0; i < parts; i++) {
+        printf("%*s", i == 0 ? 0 : indent, "");
+        print_line(v, paths + paths_words(i, paths));
+    }
+}
+
+void print_answer(const struct view *v, const uint16_t *types, size_t parts, const uint16_t *record, int indent)
+{
+    size_t at = paths_words(parts, record);
+    print_paths(v, parts, record, indent);
+    for (int x = 1; x <= GPC_LAST_NAME; x++) {
         if (type_of(types, x)[0] == 0)
             continue;
         printf("  ");
-        print_name(&v->variables, (uint16_t)x);
+        print_name(x < GPC_FIRST_NAME ? &v->variables : &v->paths, (uint16_t)x);
         printf(": ");
         print_value(v, type_of(types, x), record + at, 1);
         at += value_words(type_of(types, x), record + at);

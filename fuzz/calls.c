@@ -3,7 +3,7 @@
 
 #include "fuzz.h"
 
-enum { IMAGE, PATTERN, WORDS, PAGE, WORK, REPORT, PIECES };
+enum { IMAGE, QUERY, WORDS, PAGE, WORK, REPORT, PIECES };
 enum { GUARD = 64, ROOM = 2 * MOST_WORK + 2 * GUARD + 2 };
 
 /* Memory to lend. What a call may only read has contents of its own; the rest holds noise. */
@@ -15,7 +15,6 @@ struct piece {
 
 struct call {
     struct piece piece[PIECES];
-    uint64_t restrictor;
     uint64_t (*invoke)(const struct call *);
 };
 
@@ -139,8 +138,19 @@ static void check_read(const struct call *c, const struct outcome *o, unsigned r
 static uint64_t invoke_check(const struct call *c)
 {
     const struct piece *p = c->piece;
-    return gpc_check_pattern((const uint16_t *)p[PATTERN].data, p[PATTERN].bytes / 2, (uint16_t *)p[PAGE].data, p[PAGE].bytes / 2,
-                             p[REPORT].data, p[REPORT].bytes);
+    return gpc_check_query((const uint16_t *)p[QUERY].data, p[QUERY].bytes / 2, (uint16_t *)p[PAGE].data, p[PAGE].bytes / 2,
+                           p[REPORT].data, p[REPORT].bytes);
+}
+
+static int is_of_query(uint64_t n)
+{
+    return (n >= GPC_PATTERN_LENGTH && n <= GPC_PATTERN_UNTYPED) || (n >= GPC_QUERY_LAYOUT && n <= GPC_QUERY_UNTYPED);
+}
+
+/* Judge and page have the reader's numbers, the checker's but 17, and 21, 22. */
+static int is_of_listing(uint64_t n)
+{
+    return n <= GPC_IMAGE_BAD_PROPERTY || is_of_query(n) || n == GPC_RESTRICTOR || n == GPC_WORK_TOO_SHORT;
 }
 
 static int types_written(const struct outcome *o) { return o->result == 1 && o->number[0] != GPC_TYPES_TOO_SHORT; }
@@ -151,27 +161,27 @@ static void check_types(const struct call *c, const struct outcome *o, unsigned 
 {
     const struct piece *t = &c->piece[PAGE];
     uint64_t n = o->number[0];
-    EXPECT(n == 0 || (n >= GPC_PATTERN_LENGTH && n <= GPC_TYPES_TOO_SHORT), "no number of the checker");
+    EXPECT(n == 0 || n == GPC_TYPES_TOO_SHORT || is_of_query(n), "no number of the checker");
     EXPECT(o->result == 0 || (n == GPC_TYPES_TOO_SHORT) == (t->bytes < 2 * GPC_TYPE_WORDS), "17 not by the area's length");
-    EXPECT(o->number[1] == 0 || (n >= GPC_PATTERN_MALFORMED && n <= GPC_PATTERN_UNTYPED && 10 * o->number[1] < c->piece[PATTERN].bytes),
+    EXPECT(o->number[1] == 0 || (n >= GPC_PATTERN_MALFORMED && n <= GPC_PATTERN_UNTYPED && 10 * o->number[1] < c->piece[QUERY].bytes),
            "a row that is none");
     EXPECT(untouched(t, types_bytes(o), round), "type words that are not left alone");
     if (types_written(o) && n != 0)
-        EXPECT(is_zero(t->data, 2 * GPC_TYPE_WORDS), "types of a refused table");
+        EXPECT(is_zero(t->data, 2 * GPC_TYPE_WORDS), "types of a refused query");
     EXPECT(is_zero(&o->number[2], 48), "a checker that reports more");
 }
 
 static uint64_t invoke_judge(const struct call *c)
 {
     const struct piece *p = c->piece;
-    return gpc_judge_record(p[IMAGE].data, p[IMAGE].bytes, (const uint16_t *)p[PATTERN].data, p[PATTERN].bytes / 2, c->restrictor,
+    return gpc_judge_record(p[IMAGE].data, p[IMAGE].bytes, (const uint16_t *)p[QUERY].data, p[QUERY].bytes / 2,
                             (const uint16_t *)p[WORDS].data, p[WORDS].bytes / 2, (uint16_t *)p[WORK].data, p[WORK].bytes / 2,
                             p[REPORT].data, p[REPORT].bytes);
 }
 
 static void check_judge(const struct call *c, const struct outcome *o, unsigned round)
 {
-    EXPECT(o->number[0] <= GPC_WORK_TOO_SHORT && o->number[0] != GPC_TYPES_TOO_SHORT, "no number of the judge");
+    EXPECT(is_of_listing(o->number[0]), "no number of the judge");
     EXPECT(o->number[2] <= 1 && o->number[3] == 0 && o->number[4] == 0 && o->number[5] == 0, "neither yes nor no");
     check_work(&c->piece[WORK], o, round);
 }
@@ -179,7 +189,7 @@ static void check_judge(const struct call *c, const struct outcome *o, unsigned 
 static uint64_t invoke_fill(const struct call *c)
 {
     const struct piece *p = c->piece;
-    return gpc_fill_page(p[IMAGE].data, p[IMAGE].bytes, (const uint16_t *)p[PATTERN].data, p[PATTERN].bytes / 2, c->restrictor,
+    return gpc_fill_page(p[IMAGE].data, p[IMAGE].bytes, (const uint16_t *)p[QUERY].data, p[QUERY].bytes / 2,
                          (const uint16_t *)p[WORDS].data, p[WORDS].bytes / 2, (uint16_t *)p[PAGE].data, p[PAGE].bytes / 2,
                          (uint16_t *)p[WORK].data, p[WORK].bytes / 2, p[REPORT].data, p[REPORT].bytes);
 }
@@ -189,7 +199,7 @@ static size_t page_bytes(const struct outcome *o) { return 2 * (size_t)o->number
 static void check_fill(const struct call *c, const struct outcome *o, unsigned round)
 {
     const struct piece *page = &c->piece[PAGE];
-    EXPECT(o->number[0] <= GPC_PAGE_TOO_SHORT && o->number[0] != GPC_TYPES_TOO_SHORT, "no number of the page");
+    EXPECT(is_of_listing(o->number[0]) || o->number[0] == GPC_PAGE_TOO_SHORT, "no number of the page");
     EXPECT(o->number[3] <= page->bytes / 2 && o->number[4] <= 1, "words or mark that cannot be");
     EXPECT((o->number[2] == 0) == (o->number[3] == 0), "records without words, or words without records");
     EXPECT((o->number[0] == GPC_PAGE_TOO_SHORT) == (o->number[5] != 0) && (o->number[5] == 0 || o->number[5] > page->bytes / 2),
@@ -203,12 +213,11 @@ static struct call call_on(const struct subject *s, const uint16_t *words, size_
 {
     static const uint16_t nothing[1];
     struct call c = {.piece = {[IMAGE] = {.from = s->image, .width = 1, .bytes = s->image_bytes},
-                               [PATTERN] = {.from = s->pattern, .width = 2, .bytes = 2 * s->pattern_words},
+                               [QUERY] = {.from = s->query, .width = 2, .bytes = 2 * s->query_words},
                                [WORDS] = {.from = words == NULL ? nothing : words, .width = 2, .bytes = 2 * count},
                                [PAGE] = {.width = 2, .bytes = 2 * page},
                                [WORK] = {.width = 2, .bytes = 2 * work},
-                               [REPORT] = {.width = 1, .bytes = report}},
-                     .restrictor = s->restrictor};
+                               [REPORT] = {.width = 1, .bytes = report}}};
     return c;
 }
 
@@ -219,7 +228,7 @@ struct outcome read_image(const struct subject *s, size_t report_bytes)
     return run(&c, check_read, NULL, NULL);
 }
 
-struct outcome check_pattern(const struct subject *s, uint16_t *types, size_t types_words, size_t report_bytes)
+struct outcome check_query(const struct subject *s, uint16_t *types, size_t types_words, size_t report_bytes)
 {
     struct call c = call_on(s, NULL, 0, types_words, 0, report_bytes);
     c.invoke = invoke_check;

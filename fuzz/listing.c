@@ -3,24 +3,16 @@
 
 #include "fuzz.h"
 
-enum { MOST_PAGES = 20, MOST_JUDGED = 12, MOST_NODES = 64 };
+enum { MOST_PAGES = 20, MOST_JUDGED = 12 };
 
-/* The first records of a listing; all of them if it is complete. Record i is the words from ends[i] to ends[i + 1]. */
-struct listing {
-    uint16_t words[MOST_PAGE];
-    size_t ends[MOST_RECORDS + 1];
-    size_t records;
-    int complete;
-};
+size_t path_words(const uint16_t *w, size_t left) { return left > 0 && 2u * w[0] + 2 <= left ? 2u * w[0] + 2 : 0; }
 
-/* The words of a path, 0 if there are too few. */
-static size_t path_words(const uint16_t *w, size_t left) { return left > 0 && 2u * w[0] + 2 <= left ? 2u * w[0] + 2 : 0; }
-
-/* The words of a value of a type, 0 if there are too few. */
-static size_t value_words(const uint16_t *type, const uint16_t *w, size_t left)
+size_t value_words(const uint16_t *type, const uint16_t *w, size_t left)
 {
     if (left == 0)
         return 0;
+    if (type[0] == GPC_TYPE_PATH)
+        return path_words(w, left);
     if (type[0] == GPC_TYPE_MAYBE)
         return w[0] == GPC_NOTHING ? 1 : value_words(type + 1, w, left);
     if (type[0] != GPC_TYPE_GROUP)
@@ -36,11 +28,15 @@ static size_t value_words(const uint16_t *type, const uint16_t *w, size_t left)
     return at;
 }
 
-static size_t record_words(const uint16_t *types, const uint16_t *w, size_t left)
+size_t record_words(const uint16_t *types, size_t parts, const uint16_t *w, size_t left)
 {
-    size_t at = path_words(w, left);
-    EXPECT(at != 0, "a record without a path");
-    for (int x = 0; x < 8; x++) {
+    size_t at = 0;
+    for (size_t i = 0; i < parts; i++) {
+        size_t path = path_words(w + at, left - at);
+        EXPECT(path != 0, "a record without a path for each part");
+        at += path;
+    }
+    for (int x = 0; x < GPC_LAST_NAME; x++) {
         if (types[6 * x] == 0)
             continue;
         size_t value = value_words(types + 6 * x, w + at, left - at);
@@ -50,7 +46,7 @@ static size_t record_words(const uint16_t *types, const uint16_t *w, size_t left
     return at;
 }
 
-static int order(const uint16_t *a, size_t m, const uint16_t *b, size_t n)
+int order(const uint16_t *a, size_t m, const uint16_t *b, size_t n)
 {
     for (size_t i = 0; i < m && i < n; i++)
         if (a[i] != b[i])
@@ -58,12 +54,12 @@ static int order(const uint16_t *a, size_t m, const uint16_t *b, size_t n)
     return (m > n) - (m < n);
 }
 
-static const uint16_t *words_of(const struct listing *l, size_t i) { return l->words + l->ends[i]; }
+const uint16_t *words_of(const struct listing *l, size_t i) { return l->words + l->ends[i]; }
 
-static size_t length_of(const struct listing *l, size_t i) { return l->ends[i + 1] - l->ends[i]; }
+size_t length_of(const struct listing *l, size_t i) { return l->ends[i + 1] - l->ends[i]; }
 
-/* Lists by one big page: its words part into as many records as it says, strictly rising. */
-static void list(const struct subject *s, const uint16_t *types, struct listing *l)
+/* The words of the page part into as many records as it says, strictly rising. */
+void list(const struct subject *s, const uint16_t *types, struct listing *l)
 {
     struct outcome o = fill_page(s, NULL, 0, l->words, MOST_PAGE, GPC_WORK_WORDS, GPC_REPORT_BYTES);
     EXPECT(o.number[0] == 0 || o.number[0] == GPC_PAGE_TOO_SHORT, "an accepted listing refused");
@@ -71,7 +67,7 @@ static void list(const struct subject *s, const uint16_t *types, struct listing 
     l->ends[0] = 0;
     l->complete = o.number[4] == 1;
     while (l->ends[l->records] < o.number[3]) {
-        size_t at = l->ends[l->records], size = record_words(types, l->words + at, o.number[3] - at);
+        size_t at = l->ends[l->records], size = record_words(types, s->query[0], l->words + at, o.number[3] - at);
         l->ends[++l->records] = at + size;
         size_t i = l->records - 1;
         EXPECT(i == 0 || order(words_of(l, i - 1), length_of(l, i - 1), words_of(l, i), size) < 0, "records that do not rise");
@@ -177,65 +173,9 @@ static void check_judged(const struct subject *s, const struct listing *l)
     }
 }
 
-static int is_simple(const uint16_t *rec)
+void check_listing(const struct subject *s, const struct listing *l, struct bytes *b)
 {
-    for (unsigned i = 0; i <= rec[0]; i++)
-        for (unsigned j = 0; j < i; j++)
-            if (rec[1 + 2 * i] == rec[1 + 2 * j])
-                return 0;
-    return 1;
-}
-
-/* The cell for the ends of a record's path. */
-static uint16_t *least_of(uint16_t least[MOST_NODES][MOST_NODES], const uint16_t *rec) { return &least[rec[1]][rec[1 + 2 * rec[0]]]; }
-
-/* A complete listing by trails holds those of the other restrictors: without repeated nodes, and of the least length for its ends. */
-static void check_other(const struct listing *trails, const struct listing *l, uint64_t restrictor)
-{
-    static uint16_t least[MOST_NODES][MOST_NODES];
-    int simple = restrictor == GPC_SIMPLE || restrictor == GPC_SHORTEST_SIMPLE, shortest = restrictor >= GPC_SHORTEST_TRAIL;
-    size_t k = 0;
-    memset(least, 255, sizeof least);
-    for (size_t i = 0; i < trails->records; i++) {
-        const uint16_t *rec = words_of(trails, i);
-        if ((!simple || is_simple(rec)) && rec[0] < *least_of(least, rec))
-            *least_of(least, rec) = rec[0];
-    }
-    for (size_t i = 0; i < trails->records; i++) {
-        const uint16_t *rec = words_of(trails, i);
-        if ((simple && !is_simple(rec)) || (shortest && rec[0] > *least_of(least, rec)))
-            continue;
-        EXPECT(k < l->records && order(rec, length_of(trails, i), words_of(l, k), length_of(l, k)) == 0,
-               "not the trails that the restrictor leaves");
-        k++;
-    }
-    EXPECT(k == l->records && l->complete, "more than the trails that the restrictor leaves");
-}
-
-static void note_shape(const struct subject *s, const struct listing *l)
-{
-    unsigned bits = 0;
-    for (size_t n = l->records; n > 0; n >>= 1)
-        bits++;
-    feature(9, 4 * bits + s->restrictor);
-    for (size_t row = 0; l->records > 0 && row < s->pattern_words; row += 5)
-        if (s->pattern[row] >= 5 && s->pattern[row] <= 8)
-            feature(10 + (unsigned)s->pattern[row], s->pattern[5 * s->pattern[row + 1]]);
-}
-
-void check_listing(const struct subject *s, const uint16_t *types, struct bytes *b)
-{
-    static struct listing l, trails;
-    list(s, types, &l);
-    note_shape(s, &l);
-    check_judged(s, &l);
-    check_pages(s, &l, b);
-    check_near(s, &l, b);
-    if (s->restrictor == GPC_TRAIL)
-        return;
-    struct subject by_trails = *s;
-    by_trails.restrictor = GPC_TRAIL;
-    list(&by_trails, types, &trails);
-    if (trails.complete)
-        check_other(&trails, &l, s->restrictor);
+    check_judged(s, l);
+    check_pages(s, l, b);
+    check_near(s, l, b);
 }

@@ -1,10 +1,8 @@
-/* Turns the bytes of an input into an image, a pattern and a restrictor. Bytes are choices of a generator of accepted ones, so that
- * listings run for most inputs; some inputs then damage what was made, and a few are taken as they are. */
+/* Turns the bytes of an input into an image and a query. Bytes are choices of a generator of accepted ones, so that listings run for
+ * most inputs; some inputs then damage what was made, and a few are taken as they are. */
 #include <string.h>
 
 #include "fuzz.h"
-
-enum { LEAVES = 4, MOST_ROWS = 24, MOST_DEPTH = 4 };
 
 unsigned pick(struct bytes *b)
 {
@@ -79,101 +77,16 @@ static void make_image(struct subject *s, struct bytes *b)
         set_pair(s, i, from[i], from[i + 1]);
 }
 
-/* A table while it is made: which rows match without an edge, and which variables are taken. */
-struct making {
-    struct subject *s;
-    struct bytes *b;
-    int edgeless[MOST_PATTERN / 5];
-    unsigned variables;
-};
-
-static unsigned put_row(struct making *m, unsigned kind, unsigned p, unsigned q, unsigned least, unsigned greatest)
+/* Words changed anywhere, heads and number of parts among them, left off or added. */
+static void damage_query(struct subject *s, struct bytes *b)
 {
-    uint16_t row[] = {(uint16_t)kind, (uint16_t)p, (uint16_t)q, (uint16_t)least, (uint16_t)greatest};
-    memcpy(m->s->pattern + m->s->pattern_words, row, sizeof row);
-    m->s->pattern_words += 5;
-    return (unsigned)(m->s->pattern_words / 5 - 1);
-}
-
-/* Mostly a variable of its own, since few shared ones can be typed. */
-static unsigned variable(struct making *m)
-{
-    unsigned choice = below(m->b, 8);
-    if (choice < 3)
-        return 0;
-    if (choice == 7 && m->variables > 0)
-        return 1 + below(m->b, m->variables);
-    return m->variables < 8 ? ++m->variables : 0;
-}
-
-static unsigned leaf(struct making *m, unsigned kind)
-{
-    unsigned x = variable(m), label = below(m->b, 6);
-    unsigned row = put_row(m, kind, x, label < 3 ? 0 : label == 3 ? 1 : label == 4 ? 2 : 0, 0, 0);
-    m->edgeless[row] = kind == 1;
-    return row;
-}
-
-static unsigned condition(struct making *m, unsigned depth)
-{
-    unsigned choice = depth == 0 ? 0 : below(m->b, 6), most = m->variables == 0 ? 1 : m->variables;
-    unsigned x = most - below(m->b, 2) % most, y = most - below(m->b, 2) % most;
-    if (choice < 2)
-        return put_row(m, 16, x, below(m->b, 3), below(m->b, 2), 0);
-    if (choice == 2)
-        return put_row(m, 17, x, below(m->b, 3), y, below(m->b, 3));
-    unsigned p = condition(m, depth - 1);
-    if (choice == 3)
-        return put_row(m, 20, p, 0, 0, 0);
-    unsigned q = condition(m, depth - 1);
-    return put_row(m, choice == 4 ? 18 : 19, p, q, 0, 0);
-}
-
-/* A repetition over a row, which gets an edge where it can match without one, but for a few that are to be refused. */
-static unsigned repeated(struct making *m, unsigned body)
-{
-    if (m->edgeless[body] && below(m->b, 32) != 31) {
-        unsigned edge = leaf(m, 2 + below(m->b, 3));
-        body = put_row(m, 6, body, edge, 0, 0);
-    }
-    unsigned least = below(m->b, 3), more = below(m->b, 4);
-    unsigned row = put_row(m, 8, body, 0, least, more == 3 ? 65535 : least + more);
-    m->edgeless[row] = least == 0;
-    return row;
-}
-
-static unsigned pattern_row(struct making *m, unsigned depth, unsigned repetitions)
-{
-    unsigned choice = below(m->b, 10);
-    if (depth == 0 || m->s->pattern_words > 5 * MOST_ROWS || choice < 2)
-        return leaf(m, 1 + below(m->b, LEAVES));
-    if (choice < 4 && repetitions > 0)
-        return repeated(m, pattern_row(m, depth - 1, repetitions - 1));
-    unsigned p = pattern_row(m, depth - 1, repetitions), row;
-    if (choice == 9) {
-        row = put_row(m, 7, p, condition(m, 2), 0, 0);
-        m->edgeless[row] = m->edgeless[p];
-        return row;
-    }
-    unsigned q = pattern_row(m, depth - 1, repetitions);
-    row = put_row(m, choice < 6 ? 5 : 6, p, q, 0, 0);
-    m->edgeless[row] = choice < 6 ? m->edgeless[p] || m->edgeless[q] : m->edgeless[p] && m->edgeless[q];
-    return row;
-}
-
-/* Two repetitions deep, now and then three. */
-static void make_pattern(struct subject *s, struct bytes *b)
-{
-    struct making m = {.s = s, .b = b};
-    s->pattern_words = 0;
-    pattern_row(&m, 1 + below(b, MOST_DEPTH), below(b, 32) == 31 ? 3 : 2);
-}
-
-static uint64_t make_restrictor(struct bytes *b)
-{
-    static const uint64_t odd[] = {0, 5, 1 | (uint64_t)1 << 32, UINT64_MAX};
-    unsigned choice = pick(b);
-    return choice >= 250 ? odd[choice % 4] : 1 + choice % 4;
+    unsigned way = below(b, 4), at = pick(b), value = pick(b);
+    if (way < 2 && s->query_words > 0)
+        s->query[(at < 128 ? at % 14 : at) % s->query_words] = (uint16_t)(way == 0 ? value % 24 : value * 257);
+    else if (way == 2)
+        s->query_words -= s->query_words < at % 7 ? s->query_words : at % 7;
+    else if (s->query_words < MOST_QUERY)
+        s->query[s->query_words++] = (uint16_t)value;
 }
 
 static void damage(struct subject *s, struct bytes *b)
@@ -182,35 +95,32 @@ static void damage(struct subject *s, struct bytes *b)
         unsigned choice = below(b, 6), at = pick(b), value = pick(b);
         if (choice < 2 && s->image_bytes > 0)
             s->image[(at + 256 * (size_t)(choice & value & 3)) % s->image_bytes] = (uint8_t)value;
-        else if (choice < 4 && s->pattern_words > 0)
-            s->pattern[at % s->pattern_words] = (uint16_t)(choice == 2 ? value % 24 : value * 257);
-        else if (choice == 4)
+        else if (choice == 2)
             s->image_bytes -= s->image_bytes < at ? s->image_bytes : at;
         else
-            s->pattern_words -= s->pattern_words < at % 7 ? s->pattern_words : at % 7;
+            damage_query(s, b);
     }
 }
 
-/* The input as it is: half of it the image, the rest the pattern. */
+/* The input as it is: half of it the image, the rest the query. */
 static void take_raw(struct subject *s, struct bytes *b)
 {
     s->image_bytes = b->left / 2 < MOST_IMAGE ? b->left / 2 : MOST_IMAGE;
     for (size_t i = 0; i < s->image_bytes; i++)
         s->image[i] = (uint8_t)pick(b);
-    s->pattern_words = b->left / 2 < MOST_PATTERN ? b->left / 2 : MOST_PATTERN;
-    for (size_t i = 0; i < s->pattern_words; i++)
-        s->pattern[i] = (uint16_t)(pick(b) + 256 * pick(b));
+    s->query_words = b->left / 2 < MOST_QUERY ? b->left / 2 : MOST_QUERY;
+    for (size_t i = 0; i < s->query_words; i++)
+        s->query[i] = (uint16_t)(pick(b) + 256 * pick(b));
 }
 
 void make_subject(struct subject *s, struct bytes *b)
 {
     unsigned way = pick(b);
-    s->restrictor = make_restrictor(b);
     if (way >= 252) {
         take_raw(s, b);
         return;
     }
-    make_pattern(s, b);
+    make_query(s, b);
     make_image(s, b);
     if (way >= 224)
         damage(s, b);

@@ -2,7 +2,7 @@
  * Linked with --wrap for the functions of the header; WRONG is the fault's number, from 1. fuzz/caught tries them all. */
 #include <string.h>
 
-#include "gpc.h"
+#include "fuzz.h"
 
 enum {
     ONE_WORD_TOO_MANY_CLEARED = 1,
@@ -19,15 +19,45 @@ enum {
     YES_TO_ALL,
     IMAGE_WRITTEN,
     SHORT_REPORT_TAKEN,
-    ONE_TYPE_TOO_MANY
+    ONE_TYPE_TOO_MANY,
+    CLASH_PASSED,
+    PARTS_SWAPPED,
+    SECOND_OF_LAST_DROPPED
 };
 
 uint64_t __real_gpc_read_image(const uint8_t *, size_t, uint8_t *, size_t);
-uint64_t __real_gpc_check_pattern(const uint16_t *, size_t, uint16_t *, size_t, uint8_t *, size_t);
-uint64_t __real_gpc_judge_record(const uint8_t *, size_t, const uint16_t *, size_t, uint64_t, const uint16_t *, size_t, uint16_t *, size_t,
-                                 uint8_t *, size_t);
-uint64_t __real_gpc_fill_page(const uint8_t *, size_t, const uint16_t *, size_t, uint64_t, const uint16_t *, size_t, uint16_t *, size_t,
-                              uint16_t *, size_t, uint8_t *, size_t);
+uint64_t __real_gpc_check_query(const uint16_t *, size_t, uint16_t *, size_t, uint8_t *, size_t);
+uint64_t __real_gpc_judge_record(const uint8_t *, size_t, const uint16_t *, size_t, const uint16_t *, size_t, uint16_t *, size_t, uint8_t *,
+                                 size_t);
+uint64_t __real_gpc_fill_page(const uint8_t *, size_t, const uint16_t *, size_t, const uint16_t *, size_t, uint16_t *, size_t, uint16_t *,
+                              size_t, uint8_t *, size_t);
+
+/* A query that the wrong library takes for an accepted one that it is lent: shortest as any, or the first two parts the other way
+ * round. */
+static const uint16_t *other_query(const uint16_t *query, size_t words)
+{
+    static uint16_t other[MOST_QUERY], types[GPC_TYPE_WORDS];
+    static uint8_t report[GPC_REPORT_BYTES];
+    static struct subject s;
+    struct part part[GPC_MOST_PARTS];
+    __real_gpc_check_query(query, words, types, GPC_TYPE_WORDS, report, sizeof report);
+    if (report[0] != 0)
+        return query;
+    s.query_words = words;
+    memcpy(s.query, query, 2 * words);
+    size_t parts = parts_of(&s, part), at = 1 + 3 * parts;
+    memcpy(other, query, 2 * words);
+    for (size_t i = 0; i < parts; i++) {
+        size_t from = WRONG == PARTS_SWAPPED && parts > 1 && i < 2 ? 1 - i : i;
+        uint16_t restrictor = part[from].restrictor;
+        int eased = WRONG == SHORTEST_AS_ANY && restrictor >= GPC_SHORTEST_TRAIL && restrictor <= GPC_SHORTEST_SIMPLE;
+        uint16_t head[] = {(uint16_t)(restrictor - (eased ? 2 : 0)), part[from].name, (uint16_t)part[from].count};
+        memcpy(other + 1 + 3 * i, head, sizeof head);
+        memcpy(other + at, part[from].words, 2 * part[from].count);
+        at += part[from].count;
+    }
+    return other;
+}
 
 uint64_t __wrap_gpc_read_image(const uint8_t *image, size_t image_bytes, uint8_t *report, size_t report_bytes)
 {
@@ -37,24 +67,95 @@ uint64_t __wrap_gpc_read_image(const uint8_t *image, size_t image_bytes, uint8_t
     return WRONG == SHORT_REPORT_TAKEN ? 1 : result;
 }
 
-uint64_t __wrap_gpc_check_pattern(const uint16_t *pattern, size_t pattern_words, uint16_t *types, size_t types_words, uint8_t *report,
-                                  size_t report_bytes)
+uint64_t __wrap_gpc_check_query(const uint16_t *query, size_t query_words, uint16_t *types, size_t types_words, uint8_t *report,
+                                size_t report_bytes)
 {
-    uint64_t result = __real_gpc_check_pattern(pattern, pattern_words, types, types_words, report, report_bytes);
+    uint64_t result = __real_gpc_check_query(query, query_words, types, types_words, report, report_bytes);
     if (WRONG == ONE_TYPE_TOO_MANY && result == 1 && types_words > GPC_TYPE_WORDS)
         types[GPC_TYPE_WORDS] = 0;
+    if (WRONG == CLASH_PASSED && result == 1 && report[0] == GPC_QUERY_UNTYPED)
+        report[0] = 0;
     return result;
 }
 
-uint64_t __wrap_gpc_judge_record(const uint8_t *image, size_t image_bytes, const uint16_t *pattern, size_t pattern_words,
-                                 uint64_t restrictor, const uint16_t *record, size_t record_words, uint16_t *work, size_t work_words,
-                                 uint8_t *report, size_t report_bytes)
+uint64_t __wrap_gpc_judge_record(const uint8_t *image, size_t image_bytes, const uint16_t *query, size_t query_words,
+                                 const uint16_t *record, size_t record_words, uint16_t *work, size_t work_words, uint8_t *report,
+                                 size_t report_bytes)
 {
-    uint64_t result = __real_gpc_judge_record(image, image_bytes, pattern, pattern_words, restrictor, record, record_words, work,
-                                              work_words, report, report_bytes);
+    if (WRONG == PARTS_SWAPPED)
+        query = other_query(query, query_words);
+    uint64_t result = __real_gpc_judge_record(image, image_bytes, query, query_words, record, record_words, work, work_words, report,
+                                              report_bytes);
     if (result == 1 && report[0] == 0 && (WRONG == NO_TO_ALL || WRONG == YES_TO_ALL))
         report[16] = WRONG == YES_TO_ALL;
     return result;
+}
+
+/* A whole listing, from which are gone the records whose paths but the last are those of the record before. */
+static uint16_t left[1 << 16];
+static size_t left_words;
+
+static size_t leading_words(const uint16_t *rec, size_t parts)
+{
+    size_t at = 0;
+    for (; parts > 1; parts--)
+        at += path_words(rec + at, SIZE_MAX);
+    return at;
+}
+
+/* Whether there is such a listing: one of several parts that comes to its end on a page. */
+static int drop_second(const uint8_t *image, size_t image_bytes, const uint16_t *query, size_t query_words, uint16_t *types)
+{
+    static uint16_t all[1 << 16], work[GPC_WORK_WORDS];
+    uint8_t report[GPC_REPORT_BYTES];
+    __real_gpc_check_query(query, query_words, types, GPC_TYPE_WORDS, report, sizeof report);
+    __real_gpc_fill_page(image, image_bytes, query, query_words, NULL, 0, all, 1 << 16, work, GPC_WORK_WORDS, report, sizeof report);
+    if (report[0] != 0 || report[32] == 0 || query[0] < 2)
+        return 0;
+    const uint16_t *before = NULL;
+    left_words = 0;
+    for (size_t at = 0, words = report[24] + 256u * report[25]; at < words;) {
+        size_t size = record_words(types, query[0], all + at, words - at), leading = leading_words(all + at, query[0]);
+        if (before == NULL || memcmp(before, all + at, 2 * leading) != 0) {
+            memcpy(left + left_words, all + at, 2 * size);
+            left_words += size;
+        }
+        before = all + at;
+        at += size;
+    }
+    return 1;
+}
+
+static void put_number(uint8_t *report, int i, size_t n)
+{
+    for (int k = 0; k < 8; k++)
+        report[8 * i + k] = (uint8_t)(k < 4 ? n >> 8 * k : 0);
+}
+
+/* The plain machine's page of what is left; report and work are as after a call that no cause but 23 refused. */
+static void fill_from_left(const uint16_t *types, size_t parts, const uint16_t *bookmark, size_t bookmark_words, uint16_t *page,
+                           size_t page_words, uint8_t *report)
+{
+    size_t at = 0, size = 0, used = 0, placed = 0;
+    memset(report, 0, GPC_REPORT_BYTES);
+    for (; at < left_words; at += size) {
+        size = record_words(types, parts, left + at, left_words - at);
+        if (order(left + at, size, bookmark, bookmark_words) <= 0)
+            continue;
+        if (used + size > page_words)
+            break;
+        memcpy(page + used, left + at, 2 * size);
+        used += size;
+        placed++;
+    }
+    if (at < left_words && placed == 0) {
+        put_number(report, GPC_REPORT_REFUSAL, GPC_PAGE_TOO_SHORT);
+        put_number(report, GPC_REPORT_NEEDED, size);
+        return;
+    }
+    put_number(report, GPC_REPORT_RECORDS, placed);
+    put_number(report, GPC_REPORT_WORDS, used);
+    put_number(report, GPC_REPORT_DONE, at == left_words);
 }
 
 /* The fault on what a call reported or left. */
@@ -76,18 +177,22 @@ static void spoil(uint16_t *work, size_t work_words, uint8_t *report)
         report[32] = 1;
 }
 
-uint64_t __wrap_gpc_fill_page(const uint8_t *image, size_t image_bytes, const uint16_t *pattern, size_t pattern_words, uint64_t restrictor,
+uint64_t __wrap_gpc_fill_page(const uint8_t *image, size_t image_bytes, const uint16_t *query, size_t query_words,
                               const uint16_t *bookmark, size_t bookmark_words, uint16_t *page, size_t page_words, uint16_t *work,
                               size_t work_words, uint8_t *report, size_t report_bytes)
 {
+    uint16_t types[GPC_TYPE_WORDS];
     if (WRONG == BOOKMARK_IGNORED)
         bookmark_words = 0;
     if (WRONG == FULL_PAGE_REFUSED && page_words > 0)
         page_words--;
-    if (WRONG == SHORTEST_AS_ANY && (restrictor == GPC_SHORTEST_TRAIL || restrictor == GPC_SHORTEST_SIMPLE))
-        restrictor -= 2;
-    uint64_t result = __real_gpc_fill_page(image, image_bytes, pattern, pattern_words, restrictor, bookmark, bookmark_words, page,
-                                           page_words, work, work_words, report, report_bytes);
+    if (WRONG == SHORTEST_AS_ANY || WRONG == PARTS_SWAPPED)
+        query = other_query(query, query_words);
+    int dropped = WRONG == SECOND_OF_LAST_DROPPED && drop_second(image, image_bytes, query, query_words, types);
+    uint64_t result = __real_gpc_fill_page(image, image_bytes, query, query_words, bookmark, bookmark_words, page,
+                                           dropped ? 0 : page_words, work, work_words, report, report_bytes);
+    if (result == 1 && dropped && (report[0] == 0 || report[0] == GPC_PAGE_TOO_SHORT))
+        fill_from_left(types, query[0], bookmark, bookmark_words, page, page_words, report);
     if (result == 1)
         spoil(work, work_words, report);
     return result;

@@ -9,8 +9,8 @@
  *   - A call keeps no pointer, allocates nothing and touches nothing else. There is no state between calls, so calls may run side by
  *     side on different memory.
  *   - Pieces of 16-bit words are aligned as uint16_t is.
- *   - A call takes less than GPC_STACK_BYTES of stack. That is measured where calls go deepest (200 edges, groups two deep: 369,432
- *     bytes) and not proved.
+ *   - A call takes less than GPC_STACK_BYTES of stack. That is measured where calls go deepest (four parts of 200 edges, groups two
+ *     deep: 607,352 bytes) and not proved.
  *
  * The report
  *   Reported numbers are written into the first 64 bytes of the report area, as eight 64-bit numbers, low byte first. GPC_REPORT_...
@@ -29,7 +29,7 @@ extern "C" {
 #endif
 
 #define GPC_REPORT_BYTES 64    /* a report area */
-#define GPC_STACK_BYTES 393216 /* a call takes less stack */
+#define GPC_STACK_BYTES 786432 /* a call takes less stack */
 
 /* The numbers of a report by their index. */
 #define GPC_REPORT_REFUSAL 0 /* refusal number, GPC_ACCEPTED where the call was not refused */
@@ -40,13 +40,16 @@ extern "C" {
 #define GPC_REPORT_DONE 4    /* gpc_fill_page: 1 if no later record exists, 0 if one does */
 #define GPC_REPORT_NEEDED 5  /* gpc_fill_page, with GPC_PAGE_TOO_SHORT: words that the next record needs */
 
-/* The limits of an image and of a pattern table. */
+/* The limits of an image and of a query. */
 #define GPC_MOST_NODES 200
 #define GPC_MOST_EDGES 200
 #define GPC_MOST_LABELS 800      /* label rows */
 #define GPC_MOST_PROPERTIES 2000 /* property rows */
-#define GPC_MOST_ROWS 64         /* rows of a pattern table */
+#define GPC_MOST_PARTS 4         /* parts of a query */
+#define GPC_MOST_ROWS 64         /* rows of a part's pattern */
 #define GPC_VARIABLES 8          /* variables are 1 to 8 */
+#define GPC_FIRST_NAME 9         /* path names are 9 to 12 */
+#define GPC_LAST_NAME 12
 
 /* Refusal numbers of the reader, in the order in which they are tried. */
 #define GPC_ACCEPTED 0            /* not refused */
@@ -73,14 +76,27 @@ extern "C" {
  */
 uint64_t gpc_read_image(const uint8_t *image, size_t image_bytes, uint8_t *report, size_t report_bytes);
 
-/* Refusal numbers of the checker. 17 is tried first, then 11 to 16 in their order, each over the whole table before the next. */
-#define GPC_PATTERN_LENGTH 11     /* not whole rows of five words, none, or over 64 */
+/* A query holds one to four parts, joined. It is lent as 16-bit words: the number of parts; then for each part three words, its
+ * restrictor (GPC_TRAIL and so on), its path name (0 for none, else 9 to 12) and the length of its pattern in words; then the patterns,
+ * one after another in the order of the parts. So the words are 1 + 3 * parts + the lengths in number.
+ *
+ * A pattern is a table of five words a row: kind, p, q, r, s. The last row is the whole pattern; rows name lower rows of the same
+ * table. Variables are 1 to 8, and those of all parts are the same eight: a variable that two parts use has one value in both, and so
+ * joins them. Parts that share none are joined too, each answer of one with each of the other. A path name has the path of its part as
+ * value. */
+
+/* Refusal numbers of the checker, beside GPC_ACCEPTED. They are tried in this order: 17; 31; 32; then 11 to 16 of the first part, 11 to
+ * 16 of the second and so on; 33. For one part each of 11 to 16 is tried over its whole table before the next. */
+#define GPC_TYPES_TOO_SHORT 17    /* a type area of fewer than 72 words */
+#define GPC_QUERY_LAYOUT 31       /* no words, no part, over four, or words that are not 1 + 3 * parts + the lengths in number */
+#define GPC_QUERY_NAME 32         /* a path name that is neither 0 nor 9 to 12, or one of 9 to 12 that two parts have */
+#define GPC_PATTERN_LENGTH 11     /* a pattern of not whole rows of five words, of none, or of over 64 */
 #define GPC_PATTERN_MALFORMED 12  /* a kind not listed, a number outside what its kind allows, a named row not lower or of the wrong sort */
 #define GPC_PATTERN_NAMING 13     /* a row but the last not named at just one place, or a last row that is a condition */
 #define GPC_PATTERN_EDGELESS 14   /* a repetition whose body can match without an edge */
 #define GPC_PATTERN_DEPTH 15      /* a third repetition around two */
-#define GPC_PATTERN_UNTYPED 16    /* a row to which the typing rules give no type */
-#define GPC_TYPES_TOO_SHORT 17    /* a type area of fewer than 48 words */
+#define GPC_PATTERN_UNTYPED 16    /* a row to which the typing rules give no type; conditions name variables of their own part */
+#define GPC_QUERY_UNTYPED 33      /* a variable of two parts that is not Node in both or Edge in both */
 
 /* The kinds of a table's rows: the first of a row's five words. */
 #define GPC_KIND_NODE 1          /* p variable or 0, q label or 0; so for the three edges */
@@ -98,69 +114,84 @@ uint64_t gpc_read_image(const uint8_t *image, size_t image_bytes, uint8_t *repor
 #define GPC_KIND_NOT 20          /* p a condition row */
 
 #define GPC_UNBOUNDED 65535 /* a repetition's greatest count: no bound */
-#define GPC_TYPE_WORDS 48   /* a type area: six words for each variable */
 
-/* The numbers of a type, outermost first, padded with 0 to six words for each variable. */
+/* The restrictors, each part's own. The shortest of a part are found before parts are joined: a shorter path of the part shuts out a
+ * longer one with the same ends, also where the shorter one joins nothing. */
+#define GPC_TRAIL 1           /* no edge occurs twice in a path */
+#define GPC_SIMPLE 2          /* no node occurs twice in a path */
+#define GPC_SHORTEST_TRAIL 3  /* of the trails with the same ends that the pattern matches, the shortest */
+#define GPC_SHORTEST_SIMPLE 4 /* of the simple paths with the same ends that the pattern matches, the shortest */
+
+#define GPC_TYPE_WORDS 72 /* a type area: six words for each variable, 1 to 8, and each path name, 9 to 12 */
+
+/* The numbers of a type, outermost first, padded with 0 to six words. */
 #define GPC_TYPE_NODE 1
 #define GPC_TYPE_EDGE 2
 #define GPC_TYPE_MAYBE 3 /* Maybe of the type that follows */
 #define GPC_TYPE_GROUP 4 /* Group of the type that follows */
+#define GPC_TYPE_PATH 5  /* of a path name, and of nothing else */
 
-/* Checks a pattern table and tells the types of its variables.
+/* Checks a query and tells the types of its variables and path names.
  *
- * The table has five words a row: kind, p, q, r, s. It is not changed.
- * Report: [0] is the number of the first cause that holds, 0 if none does. For 12 to 16, [1] is the lowest row with that fault,
- * counted from 0; otherwise it is 0.
- * Types: not refused, the first 48 words hold the types of variables 1 to 8, six words each, 0 for a variable that is not used.
- * After 11 to 16 these 48 words are 0. After 17, and with a report area under 64 bytes, the area is as it was.
- * Words past the first 48 keep what they held, always.
+ * Restrictors are not looked at: the judge and the page do that. The query is not changed.
+ * Report: [0] is the number of the first cause that holds, 0 if none does. For 12 to 16, [1] is the lowest row with that fault, counted
+ * from 0 in its own part's table, and the part is the first with a fault of 11 to 16: it is not reported, but a query of that part alone
+ * is refused by the same number and row. Otherwise [1] is 0.
+ * Types: not refused, the first 72 words hold the types of variables 1 to 8 and of path names 9 to 12, six words each: the type of
+ * number x begins at word 6 * (x - 1), and is 0 in all six where no part uses x. A variable of two parts has the type that it has in
+ * both, a path name GPC_TYPE_PATH.
+ * After 11 to 16 and 31 to 33 these 72 words are 0. After 17, and with a report area under 64 bytes, the area is as it was.
+ * Words past the first 72 keep what they held, always.
  */
-uint64_t gpc_check_pattern(const uint16_t *pattern, size_t pattern_words, uint16_t *types, size_t types_words,
-                           uint8_t *report, size_t report_bytes);
+uint64_t gpc_check_query(const uint16_t *query, size_t query_words, uint16_t *types, size_t types_words,
+                         uint8_t *report, size_t report_bytes);
 
-/* Refusal numbers of the judge and of the page, tried in this order after those of the image and of the table. */
-#define GPC_RESTRICTOR 21         /* a restrictor that is not 1 to 4 */
-#define GPC_WORK_TOO_SHORT 22     /* a work buffer of fewer than 20,000 words */
-#define GPC_PAGE_TOO_SHORT 23     /* the next record is longer than the page; only gpc_fill_page */
-
-/* The restrictors. */
-#define GPC_TRAIL 1               /* no edge occurs twice in a path */
-#define GPC_SIMPLE 2              /* no node occurs twice in a path */
-#define GPC_SHORTEST_TRAIL 3      /* of the trails with the same ends, the shortest */
-#define GPC_SHORTEST_SIMPLE 4     /* of the simple paths with the same ends, the shortest */
+/* Refusal numbers of the judge and of the page, tried in this order after those of the image (1 to 7) and of the query (31, 32, 11 to
+ * 16 of each part, 33). */
+#define GPC_RESTRICTOR 21     /* a part's restrictor that is not 1 to 4 */
+#define GPC_WORK_TOO_SHORT 22 /* a work buffer of fewer than 20,000 words */
+#define GPC_PAGE_TOO_SHORT 23 /* the next record is longer than the page; only gpc_fill_page */
 
 #define GPC_WORK_WORDS 20000        /* a work buffer */
-#define GPC_MOST_RECORD_WORDS 16410 /* no record is longer: a page with so much room never gets GPC_PAGE_TOO_SHORT */
+#define GPC_MOST_RECORD_WORDS 19224 /* no record is longer: a page with so much room never gets GPC_PAGE_TOO_SHORT */
 #define GPC_NOTHING 65535           /* the word that stands for Nothing in a record */
 
-/* A record, in 16-bit words: the number of edges of the path; its nodes and edges, alternating; then for each variable that the
- * pattern uses, in rising order, its value: the number of a node or an edge; GPC_NOTHING; or, for a group, its count and then for each
- * factor the factor's path, written like the record's own, and the value in it. Nodes and edges are counted from 0 in the image's
- * order. Records are ordered word by word, a proper beginning first. No record is longer than 16,410 words. */
-
-/* Judges whether the given words are a record of the listing of an image, a pattern and a restrictor.
+/* A record, in 16-bit words: a path for each part, in the order of the parts; then for each variable that some part uses, 1 to 8
+ * rising, its value, written once however many parts use it; then for each path name used, 9 to 12 rising, the path of its part,
+ * written again.
+ *   A path is its number of edges, then its nodes and edges, alternating: 2 + 2 * edges words.
+ *   A value is the number of a node or an edge; GPC_NOTHING; or, for a group, its count and then for each factor the factor's path,
+ *   written like the record's own, and the value in it.
+ * Nodes and edges are counted from 0 in the image's order. The number of parts and the types that gpc_check_query tells are all that is
+ * needed to find where a record ends. Records are ordered word by word, a proper beginning first; no record begins another, and no two
+ * answers have one record. No record is longer than 19,224 words.
  *
- * Report: [0] and [1] as above for what is refused, 1 to 7, 11 to 16, 21, 22 in this order; not refused, [2] is 1 for yes and 0 for no.
- * Words that are no record at all get no. Through 22 the work buffer is as it was; otherwise its first 20,000 words are 0 afterwards,
- * and words past them keep what they held. Image, pattern and record are not changed.
+ * The listing of an image and a query is the records of all answers, each once, rising. A listing keeps fixed the image and the
+ * query's words: its parts, their order, path names, restrictors and patterns. If any of them changes, the listing is another one, and
+ * bookmarks of the first mean nothing for it; page, work and report may differ from call to call. */
+
+/* Judges whether the given words are a record of the listing of an image and a query.
+ *
+ * Report: [0] and [1] as above for what is refused: 1 to 7; 31; 32; 11 to 16 of each part, in part order; 33; 21; 22. Not refused, [2]
+ * is 1 for yes and 0 for no. Words that are no record at all get no. Through 22 the work buffer is as it was; otherwise its first
+ * 20,000 words are 0 afterwards, and words past them keep what they held. Image, query and record are not changed.
  */
-uint64_t gpc_judge_record(const uint8_t *image, size_t image_bytes, const uint16_t *pattern, size_t pattern_words,
-                          uint64_t restrictor, const uint16_t *record, size_t record_words, uint16_t *work, size_t work_words,
-                          uint8_t *report, size_t report_bytes);
+uint64_t gpc_judge_record(const uint8_t *image, size_t image_bytes, const uint16_t *query, size_t query_words, const uint16_t *record,
+                          size_t record_words, uint16_t *work, size_t work_words, uint8_t *report, size_t report_bytes);
 
 /* Fills a page with the records of the listing that come after a bookmark, in their order, as far as whole records fit.
  *
  * The bookmark is any words; no words stand before every record. Pass the last record of the page before to go on after it: over every
  * list of calls, refused ones among them, the pages then are those of a machine that reads on through the whole listing.
- * Report: [0] and [1] as for the judge, and 23 if the next record is longer than the page. Not refused: [2] records on the page,
+ * Report: [0] and [1] as for the judge, and 23, last, if the next record is longer than the page. Not refused: [2] records on the page,
  * [3] words that they take, [4] 1 if no later record exists, 0 if one does. With 23, [5] is the words that the next record needs;
  * a page with so much room gets it.
  * A refusal leaves the page as it was, and so does a page on which no record is placed; words past those reported keep what they held.
- * The work buffer: as for the judge, cleared also after 23.
+ * The work buffer: as for the judge, cleared also after 23. Image, query and bookmark are not changed.
  */
-uint64_t gpc_fill_page(const uint8_t *image, size_t image_bytes, const uint16_t *pattern, size_t pattern_words,
-                       uint64_t restrictor, const uint16_t *bookmark, size_t bookmark_words, uint16_t *page, size_t page_words,
-                       uint16_t *work, size_t work_words, uint8_t *report, size_t report_bytes);
+uint64_t gpc_fill_page(const uint8_t *image, size_t image_bytes, const uint16_t *query, size_t query_words, const uint16_t *bookmark,
+                       size_t bookmark_words, uint16_t *page, size_t page_words, uint16_t *work, size_t work_words, uint8_t *report,
+                       size_t report_bytes);
 
 #ifdef __cplusplus
 }

@@ -8,24 +8,30 @@
 /* A 16-bit number, low byte first. */
 #define W(n) (uint8_t)((n) & 255), (uint8_t)((n) >> 8)
 
-enum { NODES = 4, LEADS_TO = 1, PRESENT = 1 };
+enum { NODES = 6, LEADS_TO = 1, LOADED = 2, PROCESSOR = 3, PRESENT = 1 };
 
-/* Four maps; each leads to the maps that were made out of it, and the last is the present one. */
+/* Four maps and two processors. Each map leads to the maps that were made out of it, and the last is the present one; a processor has a
+ * map loaded. */
 static const uint8_t image[] = {
     /* where each section is, and its bytes */
-    W(16), W(8), W(24), W(24), W(48), W(16), W(64), W(6),
-    /* nodes: outer numbers */
-    W(11), W(12), W(21), W(32),
+    W(16), W(12), W(28), W(36), W(64), W(32), W(96), W(6),
+    /* nodes: outer numbers, of the maps and then of the processors */
+    W(11), W(12), W(21), W(32), W(40), W(41),
     /* edges: from, to, directed */
     W(0), W(1), W(1), W(0), W(2), W(1), W(1), W(2), W(1), W(2), W(3), W(1),
-    /* labels: element, label; element 4 is edge 0 */
-    W(4), W(LEADS_TO), W(5), W(LEADS_TO), W(6), W(LEADS_TO), W(7), W(LEADS_TO),
+    /* and undirected */
+    W(3), W(4), W(0), W(2), W(5), W(0),
+    /* labels: element, label; element 4 is node 4, element 6 is edge 0 */
+    W(4), W(PROCESSOR), W(5), W(PROCESSOR), W(6), W(LEADS_TO), W(7), W(LEADS_TO), W(8), W(LEADS_TO), W(9), W(LEADS_TO), W(10), W(LOADED),
+    W(11), W(LOADED),
     /* properties: element, key, value; element 3 is node 3 */
     W(3), W(PRESENT), W(1),
 };
 
-/* Every chain of maps that leads to the present one. */
-static const uint16_t pattern[] = {
+/* Every chain of maps that leads to the present one: a query of one part. */
+static const uint16_t query[] = {
+    1,                /* one part, and of it: */
+    GPC_TRAIL, 0, 30, /* the restrictor, no path name, 30 words of pattern */
     GPC_KIND_FORWARD,       1, LEADS_TO, 0, 0,             /* row 0: a step, variable 1 */
     GPC_KIND_REPETITION,    0, 0,        1, GPC_UNBOUNDED, /* row 1: one step or more */
     GPC_KIND_NODE,          2, 0,        0, 0,             /* row 2: a map, variable 2 */
@@ -34,7 +40,7 @@ static const uint16_t pattern[] = {
     GPC_KIND_CONCATENATION, 1, 4,        0, 0,             /* row 5: the steps, and then that map */
 };
 
-enum { PATTERN_WORDS = sizeof pattern / sizeof pattern[0] };
+enum { QUERY_WORDS = sizeof query / sizeof query[0] };
 
 /* Number i of a report: GPC_REPORT_REFUSAL and so on. */
 static inline uint64_t number(const uint8_t *report, int i)

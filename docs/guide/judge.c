@@ -3,10 +3,13 @@
 
 static uint16_t work[GPC_WORK_WORDS];
 
-static void judge(const uint16_t *rec, size_t words, uint64_t restrictor)
+static void judge(const uint16_t *rec, size_t words, uint16_t restrictor)
 {
     uint8_t report[GPC_REPORT_BYTES];
-    gpc_judge_record(image, sizeof image, pattern, PATTERN_WORDS, restrictor, rec, words, work, GPC_WORK_WORDS, report, sizeof report);
+    uint16_t asked[QUERY_WORDS];
+    memcpy(asked, query, sizeof query);
+    asked[1] = restrictor; /* of the one part */
+    gpc_judge_record(image, sizeof image, asked, QUERY_WORDS, rec, words, work, GPC_WORK_WORDS, report, sizeof report);
     if (number(report, GPC_REPORT_REFUSAL) != 0)
         printf("refused %d row %d\n", (int)number(report, GPC_REPORT_REFUSAL), (int)number(report, GPC_REPORT_ROW));
     else

@@ -15,7 +15,7 @@ int main(void)
 {
     uint8_t damaged[sizeof image];
     memcpy(damaged, image, sizeof image);
-    damaged[24 + 6 * 2 + 2] = NODES; /* edge 2, second end */
+    damaged[28 + 6 * 2 + 2] = NODES; /* edge 2, second end */
     read_and_tell(image, sizeof image);
     read_and_tell(damaged, sizeof damaged);
     read_and_tell(image, 15);
