@@ -37,7 +37,7 @@ def run():
         stated = versions(postgres)
     finally:
         postgres.close()
-    line = cases.Case("growth", graphs.line(199), patterns.repeated(variable=1), cases.TRAIL)
+    line = cases.one("growth", graphs.line(199), patterns.repeated(variable=1), cases.TRAIL)
     found = measure.growth(line, LENGTHS)
     return rows, found, stated
 
@@ -50,6 +50,7 @@ def report(rows, found, stated, shape):
         f"{date}, {measure.machine()}; {stated}. Best of {rivals.RUNS} runs, of one where a run takes over {rivals.LONG_RUN_SECONDS} s.",
         shape(tables.main_table(rows)), *without,
         "Pages:", shape(tables.page_table(rows)),
+        "Joins, and their parts each listed by itself:", shape(tables.join_table(rows)),
         "The line with a group, a page of the records of so many edges:", shape(tables.growth_table(found)),
         "Demands:", shape(demands.table(demands.all_demands(rows, found))),
         *(["A page of 20,000 words over 50 ms: " + "; ".join(slow) + "."] if slow else []),

@@ -1,4 +1,4 @@
-"""The cases of the bench, each with its graph, its pattern and what else can express it."""
+"""The cases of the bench, each with its graph, its query and what else can express it."""
 
 import struct
 from dataclasses import dataclass
@@ -15,30 +15,55 @@ WHOLE = 2000000  # a page with room for a whole listing
 SEED = 1  # of every random graph but the flights
 FLIGHTS_ANSWERS = range(1000, 10001)
 FLIGHTS_STEPS = 2000000
+PROCESSOR = 100  # the first serial number
+MOST_EDGES = 5  # of a path of the selective joins
+
+
+@dataclass
+class Part:
+    rows: list
+    restrictor: int
+    name: int = 0  # of the path; 0 none
+
+    def words(self):
+        return [word for row in self.rows for word in row]
 
 
 @dataclass
 class Case:
     name: str
     graph: graphs.Graph
-    rows: list
-    restrictor: int
+    parts: list
     query: object = None  # of a dialect: the same case in SQL
     walk: object = None  # of a graph: the same case with networkx
-    kind: str = ""  # what is asked of it: ambiguous, shortest, flights
+    kind: str = ""  # what is asked of it: ambiguous, shortest, flights, join, selective, star, record
     page_words: int = PAGE_WORDS
     most_pages: int = 0  # of a listing too long to be read to its end
     without: str = ""  # why it is not listed to its end
 
     def write(self, folder):
         folder.mkdir(parents=True, exist_ok=True)
-        words = [word for row in self.rows for word in row]
+        patterns = [part.words() for part in self.parts]
+        words = [len(self.parts)]
+        for part, pattern in zip(self.parts, patterns):
+            words += [part.restrictor, part.name, len(pattern)]
+        words += [word for pattern in patterns for word in pattern]
         (folder / "image").write_bytes(self.graph.image())
-        (folder / "pattern").write_bytes(struct.pack(f"<{len(words)}H", *words))
+        (folder / "query").write_bytes(struct.pack(f"<{len(words)}H", *words))
+
+    def alone(self):
+        """Its parts, each listed by itself."""
+        return [Case(f"{self.name}, part {number}", self.graph, [Part(part.rows, part.restrictor)], page_words=self.page_words)
+                for number, part in enumerate(self.parts, 1)]
 
     def listing(self):
         """What the listing depends on: cases that differ in pages alone ask the others only once."""
-        return self.graph.image(), tuple(self.rows), self.restrictor
+        return self.graph.image(), tuple((tuple(part.rows), part.restrictor, part.name) for part in self.parts)
+
+
+def one(name, graph, rows, restrictor, *others, **more):
+    """A case of one part without a path name."""
+    return Case(name, graph, [Part(rows, restrictor)], *others, **more)
 
 
 def flights_seeds(count):
@@ -57,15 +82,15 @@ def flights_seeds(count):
 def records():
     line, parted = graphs.fitting(SEED, 0), graphs.fitting(SEED, 5)
     return [
-        Case("chains of maps", line, patterns.chains(), TRAIL, queries.chains, walks.chains),
-        Case("chains that part and meet", parted, patterns.chains(), TRAIL, queries.chains, walks.chains),
-        Case("processors of a map", line, patterns.carried(), TRAIL, queries.carried),
+        one("chains of maps", line, patterns.chains(), TRAIL, queries.chains, walks.chains),
+        one("chains that part and meet", parted, patterns.chains(), TRAIL, queries.chains, walks.chains),
+        one("processors of a map", line, patterns.carried(), TRAIL, queries.carried),
     ]
 
 
 def flights():
     """Each listing in one page, as the queries give it in one answer; the last one in pages as well."""
-    make = partial(Case, rows=patterns.between(), restrictor=SIMPLE)
+    make = partial(one, rows=patterns.between(), restrictor=SIMPLE)
     cases = []
     for seed, graph in flights_seeds(3):
         cases.append(make(f"flights, seed {seed}", graph, query=queries.between, walk=walks.between, kind="flights", page_words=WHOLE))
@@ -74,7 +99,7 @@ def flights():
 
 def dense():
     graph, _ = graphs.random_graph(SEED, 12, 40)
-    make = partial(Case, graph=graph, rows=patterns.repeated(most=6), restrictor=TRAIL)
+    make = partial(one, graph=graph, rows=patterns.repeated(most=6), restrictor=TRAIL)
     smaller = [make(f"dense, pages of {words:,}", page_words=words) for words in (1000, 64)]
     return [make("dense, trails of 1 to 6", query=partial(queries.trails, most=6))] + smaller
 
@@ -82,16 +107,16 @@ def dense():
 def lines():
     line = graphs.line(199)
     return [
-        Case("line, every part", line, patterns.repeated(), TRAIL, queries.trails, walks.parts),
-        Case("line, every part, a group", line, patterns.repeated(variable=1), TRAIL, queries.trails, walks.parts),
-        Case("line, eight groups", line, patterns.in_a_row(8, True), TRAIL, most_pages=20,
+        one("line, every part", line, patterns.repeated(), TRAIL, queries.trails, walks.parts),
+        one("line, every part, a group", line, patterns.repeated(variable=1), TRAIL, queries.trails, walks.parts),
+        one("line, eight groups", line, patterns.in_a_row(8, True), TRAIL, most_pages=20,
              without="far too many answers to be listed by anyone: 20 pages of it"),
     ]
 
 
 def ambiguous():
     line, short = graphs.line(199), graphs.line(60)
-    make = partial(Case, restrictor=TRAIL, kind="ambiguous")
+    make = partial(one, restrictor=TRAIL, kind="ambiguous")
     return [
         make("[-> + ->] repeated", line, patterns.either(), query=queries.either),
         make("[-> + ->] repeated, a group", short, patterns.either(1), query=queries.either),
@@ -106,14 +131,59 @@ def shortest():
         for directed in 1, 0:
             kind = patterns.FORWARD if directed else patterns.UNDIRECTED
             name = f"grid {width} by {width}, {'directed' if directed else 'undirected'}"
-            cases.append(Case(name, graphs.grid(width, directed), patterns.repeated(kind), SHORTEST_TRAIL, queries.shortest,
+            cases.append(one(name, graphs.grid(width, directed), patterns.repeated(kind), SHORTEST_TRAIL, queries.shortest,
                               kind="shortest"))
     return cases
 
 
 def parallel():
-    return [Case("200 parallel edges", graphs.parallel(200), patterns.repeated(), TRAIL, queries.trails, walks.parallel)]
+    return [one("200 parallel edges", graphs.parallel(200), patterns.repeated(), TRAIL, queries.trails, walks.parallel)]
+
+
+def record_joins():
+    """Processors and the chains of the maps that they carried: two parts that share the map, at an end of both; the chain is named."""
+    graph = graphs.numbered(SEED, 5)
+    chains = Part(patterns.chains_to(1), TRAIL, 9)
+    return [
+        Case("processor and chain", graph, [Part(patterns.carried_by(PROCESSOR), TRAIL), chains], partial(queries.processor_and_chain, serial=PROCESSOR),
+             partial(walks.processor_and_chain, serial=PROCESSOR), kind="record"),
+        Case("all processors and chains", graph, [Part(patterns.carried(), TRAIL), chains], queries.processors_and_chains, walks.processors_and_chains,
+             kind="join"),
+    ]
+
+
+def joins():
+    graph, _ = graphs.random_graph(SEED, 12, 40)
+    middle = [Part(patterns.steps(1, 2, 3), TRAIL), Part(patterns.steps(4, 2, 5), TRAIL)]
+    edge = [Part(patterns.edges(0, 1, 0), TRAIL), Part(patterns.edges(2, 1), TRAIL)]
+    nothing = [Part(patterns.steps(1, 2), TRAIL), Part(patterns.steps(3, 4), SIMPLE)]
+    return [
+        Case("a node in the middle", graph, middle, queries.middle, walks.middle, kind="join"),
+        Case("an edge", graph, edge, queries.same_edge, walks.same_edge, kind="join"),
+        Case("nothing shared", graph, nothing, queries.nothing, walks.nothing, kind="join"),
+    ]
+
+
+def stars():
+    parts = [Part(patterns.ray(label, label + 1), TRAIL) for label in graphs.RAYS]
+    return [Case("star of four", graphs.star(SEED), parts, queries.star, walks.star, kind="star", page_words=WHOLE)]
+
+
+def selective():
+    node = [Part(patterns.into(graphs.LEFT, 1, MOST_EDGES), SIMPLE), Part(patterns.out_of(graphs.RIGHT, 1, MOST_EDGES), SIMPLE)]
+    ends = [Part(patterns.joined_by(label, 1, MOST_EDGES), SIMPLE) for label in (graphs.RED, graphs.BLUE)]
+    make = partial(Case, page_words=WHOLE)
+    return [
+        make("selective, by a node", graphs.sided(SEED), node, partial(queries.selective, most=MOST_EDGES), partial(walks.selective, most=MOST_EDGES),
+             kind="selective"),
+        make("selective, by both ends", graphs.coloured(SEED), ends, partial(queries.both_ends, most=MOST_EDGES),
+             partial(walks.both_ends, most=MOST_EDGES), kind="join"),
+    ]
 
 
 def all_cases():
+    return one_part() + record_joins() + joins() + stars() + selective()
+
+
+def one_part():
     return records() + flights() + dense() + lines() + ambiguous() + shortest() + parallel()

@@ -4,6 +4,8 @@ from tables import first_page, number, per_line, ratio
 
 DOCUMENT_SECONDS = 19.318 / 7582  # an answer of GDB2 in document 004, Table 1
 MOST_PAGE_SECONDS = 0.050
+MOST_JOIN_SECONDS = 0.100  # the first page of a join
+MOST_ALONE = 10  # a join against its parts, each listed by itself
 PAGE_WORDS = 20000
 NOISE = 1.25  # a cost a word may grow so much and still be called the same
 
@@ -57,8 +59,21 @@ def growth(found):
     return [("line with a group: the cost a line grows no faster than its words", worst <= NOISE, number(worst))]
 
 
+def joins(rows):
+    """Of the joins; the parts of one are listed in one large page too."""
+    joined = [row for row in rows if len(row.case.parts) > 1]
+    first = max(row.engine.first for row in joined)
+    found = [(f"joins: every first page under {1e3 * MOST_JOIN_SECONDS:.0f} ms", first <= MOST_JOIN_SECONDS, f"{number(1e3 * first)} ms")]
+    for kind, what in ("selective", "the selective join"), ("star", "the star"):
+        most = max(row.engine.seconds / row.alone for row in joined if row.case.kind == kind)
+        found.append((f"{what} at most {MOST_ALONE} times its parts listed alone", most <= MOST_ALONE, number(most)))
+    least = least_ratio([row for row in joined if row.case.kind == "record"], ["SQLite", "PostgreSQL", "networkx"])
+    return found + [("processor and chain: an answer at least 10 times faster than the best of SQLite, PostgreSQL, networkx", least >= 10, number(least))]
+
+
 def all_demands(rows, found):
-    return flights(rows) + enumerator(rows) + growth(found) + pages(rows)
+    one_part = [row for row in rows if len(row.case.parts) == 1]
+    return flights(rows) + enumerator(one_part) + growth(found) + pages(one_part) + joins(rows)
 
 
 def table(demands):

@@ -1,11 +1,11 @@
 /* Lists a case page by page and times gpc_fill_page alone.
  *
- *     engine IMAGE PATTERN RESTRICTOR PAGE_WORDS MOST_PAGES SECONDS RUNS EDGES
+ *     engine IMAGE QUERY PAGE_WORDS MOST_PAGES SECONDS RUNS EDGES
  *
  * Prints answers, words, pages, whether the listing came to its end, then in seconds the first page, the worst one and all of them.
  * Of several runs each page counts by its best. A run ends after so many pages or seconds (0: no bound on pages), and a run that took
  * over 5 s is the last. A page that takes over 60 s is given up: it counts as a page without answers. The listing begins with the
- * records of so many edges (0: with the first record).
+ * records whose first path has so many edges (0: with the first record).
  */
 #include <inttypes.h>
 #include <signal.h>
@@ -21,8 +21,7 @@ enum { LONG_RUN_SECONDS = 5, PAGE_SECONDS = 60 };
 
 struct listing {
     struct bytes image;
-    struct words pattern;
-    uint64_t restrictor;
+    struct words query;
     uint16_t types[GPC_TYPE_WORDS];
     struct words page;
     struct words bookmark;
@@ -50,8 +49,8 @@ static double fill(struct listing *l)
 {
     alarm(PAGE_SECONDS);
     double before = now();
-    gpc_fill_page(l->image.at, l->image.count, l->pattern.at, l->pattern.count, l->restrictor, l->bookmark.at, l->bookmark.count,
-                  l->page.at, l->page.count, l->work, GPC_WORK_WORDS, l->report, sizeof l->report);
+    gpc_fill_page(l->image.at, l->image.count, l->query.at, l->query.count, l->bookmark.at, l->bookmark.count, l->page.at, l->page.count,
+                  l->work, GPC_WORK_WORDS, l->report, sizeof l->report);
     double after = now();
     alarm(0);
     stop_if_refused(l->report);
@@ -65,7 +64,7 @@ static void keep_bookmark(struct listing *l)
     size_t words = 0;
     for (uint64_t i = reported(l->report, 2); i > 0; i--) {
         record += words;
-        words = record_words(l->types, record);
+        words = record_words(l->types, l->query.at[0], record);
     }
     resize(&l->bookmark, words);
     memcpy(l->bookmark.at, record, words * sizeof *record);
@@ -90,7 +89,7 @@ static void note_time(struct found *f, size_t page, double seconds)
         f->pages = page + 1;
 }
 
-/* One run; a number of edges alone is a bookmark before all records of so many edges. */
+/* One run; a number of edges alone is a bookmark before all records whose first path has so many. */
 static double run(struct listing *l, struct found *f, size_t most_pages, double seconds, uint16_t edges)
 {
     double total = 0;
@@ -136,23 +135,22 @@ static void give_up(int sig)
 
 int main(int argc, char **argv)
 {
-    if (argc != 9) {
-        fputs("usage: engine IMAGE PATTERN RESTRICTOR PAGE_WORDS MOST_PAGES SECONDS RUNS EDGES\n", stderr);
+    if (argc != 8) {
+        fputs("usage: engine IMAGE QUERY PAGE_WORDS MOST_PAGES SECONDS RUNS EDGES\n", stderr);
         return 2;
     }
     l.image = read_bytes(argv[1]);
-    l.pattern = read_words(argv[2]);
-    l.restrictor = strtoull(argv[3], NULL, 10);
-    resize(&l.page, strtoull(argv[4], NULL, 10));
-    gpc_check_pattern(l.pattern.at, l.pattern.count, l.types, GPC_TYPE_WORDS, l.report, sizeof l.report);
+    l.query = read_words(argv[2]);
+    resize(&l.page, strtoull(argv[3], NULL, 10));
+    gpc_check_query(l.query.at, l.query.count, l.types, GPC_TYPE_WORDS, l.report, sizeof l.report);
     stop_if_refused(l.report);
     signal(SIGALRM, give_up);
-    for (int runs = atoi(argv[7]); runs > 0; runs--)
-        if (run(&l, &f, strtoull(argv[5], NULL, 10), strtod(argv[6], NULL), (uint16_t)atoi(argv[8])) > LONG_RUN_SECONDS)
+    for (int runs = atoi(argv[6]); runs > 0; runs--)
+        if (run(&l, &f, strtoull(argv[4], NULL, 10), strtod(argv[5], NULL), (uint16_t)atoi(argv[7])) > LONG_RUN_SECONDS)
             break;
     print(&f);
     free(l.image.at);
-    free(l.pattern.at);
+    free(l.query.at);
     free(l.page.at);
     free(l.bookmark.at);
     free(f.best);

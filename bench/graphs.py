@@ -6,9 +6,12 @@ from dataclasses import dataclass, field
 from seeded import Seeded
 
 MAP, PROCESSOR, SESSION, LEADS_TO, LOADED, MADE = range(1, 7)  # labels of a fitting record
-PRESENT, SIDE = 1, 2  # its keys
+PRESENT, SIDE, SERIAL = 1, 2, 3  # its keys
 PLACE = 1  # the key of a node's place in a random graph
 FROM, TO = 1, 2  # the two places that are asked for
+RAYS = range(1, 5)  # labels of the edges of a star
+LEFT, RIGHT = 1, 2  # labels of the nodes of a graph with two sides
+RED, BLUE = 1, 2  # labels of the edges of a coloured graph
 
 
 @dataclass
@@ -111,4 +114,43 @@ def fitting(seed, shortcuts):
         graph.edge(session, draw.below(100), label=MADE)
     while len(graph.edges) < 200:
         graph.edge(draw.below(100), 100 + draw.below(60), directed=0, label=LOADED)
+    return graph
+
+
+def numbered(seed, shortcuts):
+    """The same, and every processor has a serial number: its place among the nodes."""
+    graph = fitting(seed, shortcuts)
+    graph.properties += [(node, SERIAL, node) for node in range(100, 160)]
+    return graph
+
+
+def star(seed):
+    """Forty centres, each with an edge or two of each of four labels into the other 160 nodes."""
+    draw = Seeded(seed)
+    graph = Graph(200)
+    for label in RAYS:
+        for centre in range(40):
+            graph.edge(centre, 40 + draw.below(160), label=label)
+        for _ in range(10):
+            graph.edge(draw.below(40), 40 + draw.below(160), label=label)
+    return graph
+
+
+def sided(seed):
+    """A random graph of 60 nodes and 150 edges; every node is on one side, and two to which or from which few paths lead are on both."""
+    graph, draw = random_graph(seed, 60, 150)
+    for node in range(60):
+        graph.labels.append((node, LEFT if node % 2 else RIGHT))
+    for node in (5, 56):
+        graph.labels.append((node, LEFT if node % 2 == 0 else RIGHT))
+    return graph
+
+
+def coloured(seed):
+    """A random graph of 60 nodes and 200 edges, each red or blue."""
+    draw = Seeded(seed)
+    graph = Graph(60)
+    for _ in range(100):
+        for label in RED, BLUE:
+            graph.edge(draw.below(60), draw.below(60), label=label)
     return graph

@@ -41,14 +41,14 @@ static void make_line(void)
     }
 }
 
-static double seconds(const uint16_t *pattern, size_t words)
+static double seconds(const uint16_t *query, size_t words)
 {
     double best = 1e9;
     for (int r = 0; r < RUNS; r++) {
         struct timespec a, b;
         clock_gettime(CLOCK_MONOTONIC, &a);
         for (int i = 0; i < CALLS; i++)
-            gpc_judge_record(image, image_bytes, pattern, words, GPC_TRAIL, path, 2 * EDGES + 2, work, GPC_WORK_WORDS, report, sizeof report);
+            gpc_judge_record(image, image_bytes, query, words, path, 2 * EDGES + 2, work, GPC_WORK_WORDS, report, sizeof report);
         clock_gettime(CLOCK_MONOTONIC, &b);
         double t = ((double)(b.tv_sec - a.tv_sec) + 1e-9 * (double)(b.tv_nsec - a.tv_nsec)) / CALLS;
         if (t < best)
@@ -59,9 +59,9 @@ static double seconds(const uint16_t *pattern, size_t words)
 
 int main(void)
 {
-    static const uint16_t single[] = {2, 0, 0, 0, 0, 8, 0, 0, 1, 65535};
-    static const uint16_t either[] = {2, 0, 0, 0, 0, 2, 0, 0, 0, 0, 5, 0, 1, 0, 0, 8, 2, 0, 1, 65535};
-    static const uint16_t three[] = {2, 0, 0, 0, 0, 8, 0, 0, 1, 65535, 2, 0, 0, 0, 0, 8, 2, 0, 1, 65535, 2, 0, 0, 0, 0,
+    static const uint16_t single[] = {1, GPC_TRAIL, 0, 10, 2, 0, 0, 0, 0, 8, 0, 0, 1, 65535};
+    static const uint16_t either[] = {1, GPC_TRAIL, 0, 20, 2, 0, 0, 0, 0, 2, 0, 0, 0, 0, 5, 0, 1, 0, 0, 8, 2, 0, 1, 65535};
+    static const uint16_t three[] = {1, GPC_TRAIL, 0, 40, 2, 0, 0, 0, 0, 8, 0, 0, 1, 65535, 2, 0, 0, 0, 0, 8, 2, 0, 1, 65535, 2, 0, 0, 0, 0,
                                      8, 4, 0, 1, 65535, 6, 1, 3, 0, 0, 6, 6, 5, 0, 0};
     make_line();
     double base = seconds(single, sizeof single / 2);

@@ -34,6 +34,7 @@ class Row:
     case: object
     engine: Engine
     others: dict = field(default_factory=dict)  # name to Result, where the case can be expressed
+    alone: float = 0  # seconds of the parts of a join, each listed by itself
 
 
 def machine():
@@ -43,14 +44,14 @@ def machine():
 
 
 def written(case):
-    """The folder of a case, with its image and its pattern."""
+    """The folder of a case, with its image and its query."""
     folder = FOLDER / re.sub("[^a-z0-9]+", "-", case.name).strip("-")
     case.write(folder)
     return folder
 
 
 def engine(folder, case, most_pages=0, edges=0, runs=rivals.RUNS, seconds=ENGINE_SECONDS, programs=FOLDER):
-    command = [programs / "engine", folder / "image", folder / "pattern", case.restrictor, case.page_words, most_pages or case.most_pages,
+    command = [programs / "engine", folder / "image", folder / "query", case.page_words, most_pages or case.most_pages,
                seconds, runs, edges]
     run = subprocess.run([str(part) for part in command], capture_output=True, text=True)
     if run.returncode:
@@ -74,6 +75,8 @@ def agree(row):
 def measure(case, programs, known):
     folder = written(case)
     row = Row(case, engine(folder, case))
+    if len(case.parts) > 1:
+        row.alone = sum(engine(written(part), part).seconds for part in case.alone())
     least = max(SECONDS, 2 * row.engine.seconds)  # so that a program that is given up is known to be slower
     for program in programs:
         if not program.expresses(case):

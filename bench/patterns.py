@@ -1,6 +1,6 @@
 """The pattern tables of the cases: rows of kind, p, q, r, s."""
 
-from graphs import FROM, LEADS_TO, LOADED, MAP, PLACE, PRESENT, PROCESSOR, SIDE, TO
+from graphs import FROM, LEADS_TO, LOADED, MAP, PLACE, PRESENT, PROCESSOR, SERIAL, SIDE, TO
 
 NODE, FORWARD, BACKWARD, UNDIRECTED, UNION, CONCATENATION, CONDITIONED, REPETITION = range(1, 9)
 EQUALS, SAME, AND = 16, 17, 18
@@ -79,4 +79,71 @@ def nested():
     """A repetition of a repetition."""
     table = Table()
     table.some(table.some(table.row(FORWARD)))
+    return table.rows
+
+
+def carried_by(serial):
+    """The maps that the processor with this serial number carried."""
+    table = Table()
+    begin = table.row(CONCATENATION, table.row(NODE, 1, MAP), table.row(UNDIRECTED, 2, LOADED))
+    whole = table.row(CONCATENATION, begin, table.row(NODE, 3, PROCESSOR))
+    table.row(CONDITIONED, whole, table.row(EQUALS, 3, SERIAL, serial))
+    return table.rows
+
+
+def chains_to(last):
+    """Every chain of maps that leads to the map of this variable; the group of its edges is variable 4."""
+    table = Table()
+    chain = table.some(table.row(FORWARD, 4, LEADS_TO))
+    table.row(CONCATENATION, chain, table.row(NODE, last, MAP))
+    return table.rows
+
+
+def steps(*nodes):
+    """Forward edges through nodes with these variables."""
+    table = Table()
+    whole = table.row(NODE, nodes[0])
+    for variable in nodes[1:]:
+        whole = table.row(CONCATENATION, whole, table.row(FORWARD))
+        whole = table.row(CONCATENATION, whole, table.row(NODE, variable))
+    return table.rows
+
+
+def edges(*variables):
+    """Forward edges with these variables, 0 none."""
+    table = Table()
+    whole = table.row(FORWARD, variables[0])
+    for variable in variables[1:]:
+        whole = table.row(CONCATENATION, whole, table.row(FORWARD, variable))
+    return table.rows
+
+
+def ray(label, end):
+    """From the node of variable 1 by an edge with the label."""
+    table = Table()
+    begin = table.row(CONCATENATION, table.row(NODE, 1), table.row(FORWARD, 0, label))
+    table.row(CONCATENATION, begin, table.row(NODE, end))
+    return table.rows
+
+
+def into(label, variable, most):
+    """Up to so many edges into a node with the label."""
+    table = Table()
+    table.row(CONCATENATION, table.some(table.row(FORWARD), most), table.row(NODE, variable, label))
+    return table.rows
+
+
+def out_of(label, variable, most):
+    """Up to so many edges out of a node with the label."""
+    table = Table()
+    begin = table.row(NODE, variable, label)
+    table.row(CONCATENATION, begin, table.some(table.row(FORWARD), most))
+    return table.rows
+
+
+def joined_by(label, variable, most):
+    """Up to so many edges with the label, from the node of one variable to that of the next."""
+    table = Table()
+    begin = table.row(CONCATENATION, table.row(NODE, variable), table.some(table.row(FORWARD, 0, label), most))
+    table.row(CONCATENATION, begin, table.row(NODE, variable + 1))
     return table.rows

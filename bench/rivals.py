@@ -60,7 +60,7 @@ class Enumerator:
         return True
 
     def run(self, case, folder, limit):
-        command = [self.program, "time", folder / "image", folder / "pattern", str(case.restrictor), str(limit)]
+        command = [self.program, "time", folder / "image", folder / "query", str(limit)]
         start = time.monotonic()
         run = subprocess.run(command, capture_output=True, text=True,
                              preexec_fn=lambda: resource.setrlimit(resource.RLIMIT_AS, (MEMORY, MEMORY)))

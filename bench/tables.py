@@ -74,6 +74,16 @@ def page_table(rows):
     return [["case", "words a page", "pages", "first page ms", "worst page ms", "first page against the enumerator"]] + body
 
 
+def join_table(rows):
+    """Joins against their parts, each listed by itself."""
+    body = []
+    for row in rows:
+        if len(row.case.parts) > 1:
+            body.append([row.case.name, str(len(row.case.parts)), answers(row.engine), number(1e3 * row.engine.seconds), number(1e3 * row.alone),
+                         number(row.engine.seconds / row.alone)])
+    return [["join", "parts", "answers", "ms", "its parts alone ms", "ratio"]] + body
+
+
 def growth_table(found):
     body = []
     for edges, page in found:
