@@ -19,5 +19,6 @@ pub mod record;
 pub mod refusal;
 pub mod table;
 pub mod timed;
+pub mod truth;
 pub mod typing;
 pub mod value;

@@ -133,10 +133,14 @@ fn refused_examples() {
     assert_eq!(checked(&[[2, 0, 0, 0, 0], [8, 0, 0, 2, 1]]), (12, 1));
 }
 
+/// As Q-2 changes it: not unknown is unknown, and no match is kept.
 #[test]
-fn not_holds_where_the_property_is_missing() {
+fn not_of_an_absent_key_gives_no_match() {
     let rows = [[1, 1, 0, 0, 0], [16, 1, 7, 5, 0], [20, 1, 0, 0, 0], [7, 0, 2, 0, 0]];
-    assert_eq!(records(&plain(1, &[]), &rows, 1), [[0, 0, 0]]);
+    assert_eq!(records(&plain(1, &[]), &rows, 1), Vec::<Vec<u16>>::new());
+    // With another value it is false that they are equal, and the node matches.
+    let valued = image(&[1], &[], &[], &[[0, 7, 4]]);
+    assert_eq!(records(&valued, &rows, 1), [[0, 0, 0]]);
 }
 
 #[test]

@@ -64,7 +64,7 @@ fn conditioned_pattern() {
     };
     assert_eq!(ends(&[[0, 7, 5], [1, 7, 4], [2, 7, 5]]), [2]);
     assert_eq!(ends(&[[0, 7, 5], [1, 7, 5], [2, 7, 5]]), [1, 2]);
-    // Equal means that both sides are defined.
+    // With a side undefined it is unknown, which keeps nothing.
     assert_eq!(ends(&[]), Vec::<u16>::new());
     assert_eq!(ends(&[[1, 7, 5], [2, 7, 5]]), Vec::<u16>::new());
     let mut ill = rows;
@@ -129,7 +129,7 @@ fn labels_of_nodes_and_edges() {
     assert_eq!(records(&graph, &[[2, 0, B, 0, 0]], 1), Vec::<Vec<u16>>::new());
 }
 
-/// Equality of properties across a node and an edge; and, or, not.
+/// Equality of properties across a node and an edge; and, or, not, by three truth values (02, Q-2).
 #[test]
 fn conditions() {
     let graph = image(&[1, 2], &[[0, 1, 1]], &[], &[[0, 7, 5], [1, 8, 5], [2, 7, 5]]);
@@ -142,7 +142,8 @@ fn conditions() {
     let (yes, no) = ([17, 1, 7, 2, 7], [16, 2, 7, 4, 0]);
     let missing = [17, 1, 9, 2, 9];
     assert!(holds(&[yes]) && !holds(&[no]) && !holds(&[missing]));
-    assert!(holds(&[missing, [20, 3, 0, 0, 0]]));
+    assert!(!holds(&[yes, [20, 3, 0, 0, 0]]) && holds(&[no, [20, 3, 0, 0, 0]]) && !holds(&[missing, [20, 3, 0, 0, 0]]));
     assert!(!holds(&[yes, no, [18, 3, 4, 0, 0]]) && holds(&[yes, no, [19, 3, 4, 0, 0]]));
     assert!(holds(&[yes, yes, [18, 3, 4, 0, 0]]) && !holds(&[no, missing, [19, 3, 4, 0, 0]]));
+    assert!(holds(&[yes, missing, [19, 3, 4, 0, 0]]) && !holds(&[yes, missing, [18, 3, 4, 0, 0]]));
 }
