@@ -127,11 +127,16 @@ static void forget(struct sample *s, size_t from) {
     s->count = from;
 }
 
-static struct field *field(struct sample *s, const char *name) {
+static struct field *find(struct sample *s, const char *name) {
     for (size_t i = 0; i < s->count; i++)
         if (strcmp(s->fields[i].name, name) == 0) return &s->fields[i];
-    die(name);
     return NULL;
+}
+
+static struct field *field(struct sample *s, const char *name) {
+    struct field *f = find(s, name);
+    if (f == NULL) die(name);
+    return f;
 }
 
 /* What a call is lent: a null pointer for nothing, where null is asked for. */
@@ -142,22 +147,20 @@ static void *lent(struct sample *s, const char *name, int null) {
 
 static size_t items(struct sample *s, const char *name) { return field(s, name)->items; }
 
-static uint64_t call(const char *sort, struct sample *s, int null) {
-    if (strcmp(sort, "images") == 0)
-        return gpc_read_image(lent(s, "image", null), items(s, "image"), lent(s, "report", null), items(s, "report"));
-    if (strcmp(sort, "queries") == 0)
+/* The operation is told by what the case lends. */
+static uint64_t call(struct sample *s, int null) {
+    if (find(s, "types") != NULL)
         return gpc_check_query(lent(s, "query", null), items(s, "query"), lent(s, "types", null), items(s, "types"),
                                lent(s, "report", null), items(s, "report"));
-    if (strcmp(sort, "records") == 0)
+    if (find(s, "record") != NULL)
         return gpc_judge_record(lent(s, "image", null), items(s, "image"), lent(s, "query", null), items(s, "query"),
                                 lent(s, "record", null), items(s, "record"), lent(s, "work", null), items(s, "work"),
                                 lent(s, "report", null), items(s, "report"));
-    if (strcmp(sort, "pages") == 0 || strcmp(sort, "lists") == 0)
+    if (find(s, "bookmark") != NULL)
         return gpc_fill_page(lent(s, "image", null), items(s, "image"), lent(s, "query", null), items(s, "query"),
                              lent(s, "bookmark", null), items(s, "bookmark"), lent(s, "page", null), items(s, "page"),
                              lent(s, "work", null), items(s, "work"), lent(s, "report", null), items(s, "report"));
-    die("no such sort");
-    return 0;
+    return gpc_read_image(lent(s, "image", null), items(s, "image"), lent(s, "report", null), items(s, "report"));
 }
 
 /* Whether a buffer is as the case says: as NAME-after where there is one, else as it was lent. */
@@ -172,7 +175,7 @@ static int as_expected(struct sample *s, const struct field *f, const uint8_t *b
 
 static int is_lent(const struct field *f) { return f->memory != NULL && strstr(f->name, "-after") == NULL; }
 
-static int holds(const char *sort, struct sample *s, int null) {
+static int holds(struct sample *s, int null) {
     uint8_t *before[MOST_FIELDS] = {0};
     for (size_t i = 0; i < s->count; i++) {
         struct field *f = &s->fields[i];
@@ -180,7 +183,7 @@ static int holds(const char *sort, struct sample *s, int null) {
         before[i] = guarded(f->items * f->width);
         memcpy(before[i] + GUARD, contents(f), f->items * f->width);
     }
-    int good = call(sort, s, null) == field(s, "result")->number;
+    int good = call(s, null) == field(s, "result")->number;
     for (size_t i = 0; i < s->count; i++) {
         if (before[i] == NULL) continue;
         good = good && as_expected(s, &s->fields[i], before[i] + GUARD);
@@ -197,7 +200,7 @@ struct tally {
 static void end_case(const char *sort, const char *name, struct sample *s, int good, struct tally *t) {
     if (s->count == 0) return;
     int null = (int)((t->passed + t->failed) % 2);
-    good = good && holds(sort, s, null);
+    good = good && holds(s, null);
     t->passed += good;
     t->failed += !good;
     if (!good && t->failed <= MOST_SHOWN) printf("differs: %s case %s\n", sort, name);
@@ -206,12 +209,12 @@ static void end_case(const char *sort, const char *name, struct sample *s, int g
 }
 
 /* A line "call K": what came before the first one is fixed, and a call before another one is complete. */
-static int next_call(const char *sort, struct sample *s, const struct tally *t) {
+static int next_call(struct sample *s, const struct tally *t) {
     if (s->fixed == 0) {
         s->fixed = s->count;
         return 1;
     }
-    int good = holds(sort, s, (int)((t->passed + t->failed) % 2));
+    int good = holds(s, (int)((t->passed + t->failed) % 2));
     forget(s, s->fixed);
     return good;
 }
@@ -230,7 +233,7 @@ int main(int argc, char **argv) {
             good = 1;
             snprintf(name, sizeof name, "%s", line + 5);
         } else if (strncmp(line, "call ", 5) == 0) {
-            good = next_call(argv[1], &s, &t) && good;
+            good = next_call(&s, &t) && good;
         } else {
             take_field(&s, line);
         }

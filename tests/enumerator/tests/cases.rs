@@ -1,9 +1,9 @@
 //! The text of comparison cases reads back to calls with the outcome it states.
 
 use enumerator::cases;
-use enumerator::operations::{check_query, fill_page, judge_record, read_image};
+use enumerator::operations::{check_query, fill_page, judge_record, numbers, read_image};
 use enumerator::program;
-use std::collections::BTreeMap;
+use std::collections::{BTreeMap, BTreeSet};
 
 type Case = BTreeMap<String, String>;
 
@@ -70,16 +70,18 @@ fn queries() {
     }
 }
 
+fn judged(case: &Case) {
+    let (image, query, record) = (bytes(case, "image"), words(case, "query"), words(case, "record"));
+    let (mut work, mut report) = (words(case, "work"), bytes(case, "report"));
+    let result = judge_record(&image, &query, &record, &mut work, &mut report);
+    assert_eq!(result, number(case, "result"));
+    assert_eq!(work, words(case, "work-after"));
+    assert_eq!(report, bytes(case, "report-after"));
+}
+
 #[test]
 fn records() {
-    for case in read("records", 5, 200) {
-        let (image, query, record) = (bytes(&case, "image"), words(&case, "query"), words(&case, "record"));
-        let (mut work, mut report) = (words(&case, "work"), bytes(&case, "report"));
-        let result = judge_record(&image, &query, &record, &mut work, &mut report);
-        assert_eq!(result, number(&case, "result"));
-        assert_eq!(work, words(&case, "work-after"));
-        assert_eq!(report, bytes(&case, "report-after"));
-    }
+    read("records", 5, 200).iter().for_each(judged);
 }
 
 fn filled(case: &Case) {
@@ -96,6 +98,21 @@ fn filled(case: &Case) {
 #[test]
 fn pages() {
     read("pages", 5, 200).iter().for_each(filled);
+}
+
+/// A case that lends a record judges it, and the others fill a page.
+#[test]
+fn conditions() {
+    let (judging, filling): (Vec<Case>, Vec<Case>) =
+        read("conditions", 5, 400).into_iter().partition(|case| case.contains_key("record"));
+    judging.iter().for_each(judged);
+    filling.iter().for_each(filled);
+    for note in ["whole listing", "after a bookmark"] {
+        assert!(filling.iter().any(|case| case["note"] == note), "{note}");
+    }
+    let told = judging.iter().filter(|case| number(case, "result") == 1).map(|case| numbers(&bytes(case, "report-after")));
+    let verdicts: BTreeSet<u64> = told.filter(|told| told[0] == 0).map(|told| told[2]).collect();
+    assert_eq!(verdicts, [0, 1].into());
 }
 
 /// Over a list the machine that counts says what the operation says after the bookmark.
@@ -124,7 +141,7 @@ fn lists() {
 
 #[test]
 fn listings() {
-    let cases = read("listings", 5, 200);
+    let cases = read("listings", 5, 400);
     for case in &cases {
         assert_eq!(program::print(&bytes(case, "input")).as_bytes(), bytes(case, "text"));
     }

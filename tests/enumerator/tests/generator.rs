@@ -3,9 +3,10 @@
 
 mod common;
 use common::*;
+use enumerator::pattern::{Condition, Form, Pattern};
 use enumerator::query::{self, alone, words};
 use enumerator::random::source::Source;
-use enumerator::random::{buffers, candidates, cost, damage, faults, graphs, parts, queries, query_faults, subjects, tables};
+use enumerator::random::{buffers, candidates, conditions, cost, damage, faults, graphs, parts, queries, query_faults, subjects, tables};
 use std::collections::BTreeSet;
 
 #[test]
@@ -214,6 +215,67 @@ fn subjects_of_any_sort_meet_every_cause() {
         numbers.insert(cause(&subject.image, &subject.query).0);
     }
     assert_eq!(numbers, (0..=7).chain(11..=16).chain([21, 31, 32, 33]).collect());
+}
+
+fn depth(condition: &Condition) -> usize {
+    match condition {
+        Condition::Constant { .. } | Condition::Equal { .. } => 0,
+        Condition::And(left, right) | Condition::Or(left, right) => 1 + depth(left).max(depth(right)),
+        Condition::Not(inner) => 1 + depth(inner),
+    }
+}
+
+/// Each condition with the kinds of the rows around its pattern.
+fn placed<'a>(pattern: &'a Pattern, mut around: BTreeSet<u16>, found: &mut Vec<(&'a Condition, BTreeSet<u16>)>) {
+    let kind = match &pattern.form {
+        Form::Node { .. } | Form::Edge { .. } => return,
+        Form::Union(..) => 5,
+        Form::Concatenation(..) => 6,
+        Form::Conditioned(_, condition) => {
+            found.push((condition, around.clone()));
+            7
+        }
+        Form::Repetition { .. } => 8,
+    };
+    around.insert(kind);
+    pattern.parts().into_iter().for_each(|part| placed(part, around.clone(), found));
+}
+
+#[test]
+fn conditions_are_deep_and_stand_within_every_kind() {
+    let mut source = Source::new(18);
+    let (mut depths, mut places, mut variables) = ([0; 5], BTreeSet::new(), BTreeSet::new());
+    let (mut counts, mut widest) = ([0; 3], 0);
+    for _ in 0..1000 {
+        let subject = conditions::any(&mut source).subject;
+        let query = query::check(&subject.query).unwrap();
+        counts[query.parts.len()] += 1;
+        let mut found = Vec::new();
+        query.parts.iter().for_each(|part| placed(&part.pattern, BTreeSet::new(), &mut found));
+        for (condition, around) in found {
+            depths[depth(condition)] += 1;
+            places.extend(around);
+            widest = widest.max(condition.variables().len());
+            variables.extend(condition.variables());
+        }
+    }
+    assert!(depths.iter().all(|&count| count > 100) && depths[4] > 300, "{depths:?}");
+    assert_eq!(places, (5..=8).collect());
+    assert_eq!(variables, (1..=8).collect());
+    assert!(widest >= 4 && counts[1] > 500 && counts[2] > 100, "{widest} {counts:?}");
+}
+
+/// A condition only ever takes records away, and both sorts of record occur to be judged.
+#[test]
+fn conditions_choose_among_the_unconditioned_records() {
+    let mut source = Source::new(19);
+    let mut kept = BTreeSet::new();
+    for _ in 0..300 {
+        let drawn = conditions::any(&mut source);
+        assert!(drawn.listing.records.iter().all(|record| drawn.unconditioned.contains(record)), "{:?}", drawn.subject);
+        kept.extend(drawn.unconditioned.iter().map(|record| drawn.listing.records.contains(record)));
+    }
+    assert_eq!(kept, BTreeSet::from([false, true]));
 }
 
 #[test]

@@ -1,6 +1,7 @@
 //! Comparison cases as text: each case is one call or a list of calls, with every buffer
 //! as it is lent and as the call must leave it. README.md describes the format.
 
+mod conditions;
 mod dump;
 mod images;
 mod listings;
@@ -19,6 +20,7 @@ pub fn text(sort: &str, seed: u64, count: usize, write: &mut dyn FnMut(&str)) ->
         "records" => records::batch,
         "pages" => pages::batch,
         "lists" => lists::batch,
+        "conditions" => conditions::batch,
         "listings" => listings::batch,
         _ => return None,
     };

@@ -1,6 +1,7 @@
 //! Cases of filling a page: a single call after a bookmark of any words.
 
 use super::dump::Case;
+use crate::listing::Listing;
 use crate::machine::{Lent, Outcome};
 use crate::random::source::Source;
 use crate::random::subjects::{self, Subject};
@@ -12,14 +13,22 @@ pub fn batch(source: &mut Source) -> Vec<String> {
     let mut cases = Vec::new();
     for _ in 0..4 {
         let (sort, bookmark) = candidates::any(source, &listing);
-        let next = listing.records.iter().find(|one| **one > bookmark).map_or(5, Vec::len);
-        let lent = buffers::lent(source, next);
-        let mut left = lent.clone();
-        let result = listing.fill_page(&bookmark, &mut left.page, &mut left.work, &mut left.report);
-        let fixed = fixed(&format!("after {sort:?}"), &subject);
-        cases.push(call(fixed, &bookmark, &lent, &Outcome { result, left }).lines);
+        let lent = buffers::lent(source, next_words(&listing, &bookmark));
+        cases.push(filled(fixed(&format!("after {sort:?}"), &subject), &listing, &bookmark, &lent));
     }
     cases
+}
+
+/// The length of the first record after a bookmark, or a length for when there is none.
+pub fn next_words(listing: &Listing, bookmark: &[u16]) -> usize {
+    listing.records.iter().find(|one| one.as_slice() > bookmark).map_or(5, Vec::len)
+}
+
+/// The whole case of one call.
+pub fn filled(fixed: Case, listing: &Listing, bookmark: &[u16], lent: &Lent) -> String {
+    let mut left = lent.clone();
+    let result = listing.fill_page(bookmark, &mut left.page, &mut left.work, &mut left.report);
+    call(fixed, bookmark, lent, &Outcome { result, left }).lines
 }
 
 /// What a listing keeps fixed.

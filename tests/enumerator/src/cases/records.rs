@@ -29,7 +29,8 @@ pub fn batch(source: &mut Source) -> Vec<String> {
     judged.iter().map(|(note, words)| case(source, note, &subject, &listing, words)).collect()
 }
 
-fn case(source: &mut Source, note: &str, subject: &Subject, listing: &Listing, record: &[u16]) -> String {
+/// One record judged.
+pub fn case(source: &mut Source, note: &str, subject: &Subject, listing: &Listing, record: &[u16]) -> String {
     let (mut work, mut report) = (buffers::work(source), buffers::report(source));
     let lent = Case::new(note)
         .bytes("image", &subject.image)

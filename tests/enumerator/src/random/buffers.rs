@@ -2,6 +2,7 @@
 
 use super::source::Source;
 use crate::machine::Lent;
+use crate::record::Record;
 
 /// Mostly one word over and over, so that dumps stay short; now and then all random.
 fn guard_words(source: &mut Source, length: usize) -> Vec<u16> {
@@ -73,6 +74,13 @@ pub fn page(source: &mut Source, next: usize) -> Vec<u16> {
 pub fn lent_widely(source: &mut Source, next: usize) -> Lent {
     let length = if source.one_in(3) { source.between(16_384, 17_000) } else { source.between(500, 3_000) };
     Lent { page: guard_words(source, length), ..lent(source, next) }
+}
+
+/// The same with a page for all of these records, one word less, or a few more.
+pub fn lent_for_all(source: &mut Source, records: &[Record]) -> Lent {
+    let all: usize = records.iter().map(Vec::len).sum();
+    let length = (all + source.below(6)).saturating_sub(1);
+    Lent { page: guard_words(source, length), ..lent(source, 0) }
 }
 
 /// All that a call to fill a page is lent but the bookmark.

@@ -64,6 +64,26 @@ pub fn long(source: &mut Source) -> Draft {
     draft
 }
 
+/// Every element has some of the keys that come with it and lacks others; the values are
+/// those given. Some are tiny, for a prover that evaluates a call.
+pub fn with_gaps(source: &mut Source, values: &[u16]) -> (Draft, &'static [u16]) {
+    let (mut draft, keys) = match source.below(6) {
+        0 => (long(source), &KEYS[..]),
+        1 | 2 => (sized(source, 2, 2), &KEYS[1..3]),
+        _ => (sized(source, 5, 9), &KEYS[..]),
+    };
+    let gaps = source.between(2, 4);
+    let all = (0..draft.elements() as u16).flat_map(|element| keys.iter().map(move |&key| (element, key)));
+    let present: Vec<(u16, u16)> = all.filter(|_| !source.one_in(gaps)).collect();
+    draft.sections[3] = present.iter().map(|&(element, key)| vec![element, key, source.pick(values)]).collect();
+    (draft, keys)
+}
+
+fn sized(source: &mut Source, most_nodes: usize, most_edges: usize) -> Draft {
+    let (nodes, edges) = (source.between(1, most_nodes), source.between(1, most_edges));
+    with_counts(source, nodes, edges)
+}
+
 /// A directed line with a few edges more, on which simple paths part and meet; its ends have the values 1 and 2 of the first key.
 pub fn journey(source: &mut Source) -> Draft {
     let nodes = source.between(9, 11);
@@ -108,7 +128,8 @@ pub fn large(source: &mut Source) -> Draft {
 fn with_counts(source: &mut Source, nodes: usize, edges: usize) -> Draft {
     let elements = nodes + if nodes == 0 { 0 } else { edges };
     let labels = source.below(elements + 3);
-    let properties = source.below(elements + 3);
+    // Enough of them that a condition is often known to be true or false.
+    let properties = source.below(2 * elements + 1);
     draft(source, [nodes, edges, labels, properties])
 }
 

@@ -2,6 +2,7 @@
 
 pub mod buffers;
 pub mod candidates;
+pub mod conditions;
 pub mod cost;
 pub mod damage;
 pub mod faults;

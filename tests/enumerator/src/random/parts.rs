@@ -60,7 +60,7 @@ fn pattern(source: &mut Source, count: usize) -> Pattern {
     }
 }
 
-fn of(form: Form) -> Pattern {
+pub fn of(form: Form) -> Pattern {
     Pattern { row: 0, form }
 }
 
@@ -68,15 +68,15 @@ fn node(variable: Variable) -> Pattern {
     of(Form::Node { variable: Some(variable), label: None })
 }
 
-fn edge(direction: Direction, variable: Option<Variable>) -> Pattern {
+pub fn edge(direction: Direction, variable: Option<Variable>) -> Pattern {
     of(Form::Edge { direction, variable, label: None })
 }
 
-fn direction(source: &mut Source) -> Direction {
+pub fn direction(source: &mut Source) -> Direction {
     source.pick(&[Direction::Forward, Direction::Forward, Direction::Backward, Direction::Undirected])
 }
 
-fn after(left: Pattern, right: Pattern) -> Pattern {
+pub fn after(left: Pattern, right: Pattern) -> Pattern {
     of(Form::Concatenation(Box::new(left), Box::new(right)))
 }
 

@@ -71,7 +71,12 @@ fn joined(source: &mut Source, room: Room, left: usize, right: usize, concatenat
 /// A repetition, where the room has size and depth for one.
 pub fn repetition(source: &mut Source, room: Room) -> Pattern {
     let body = grow(source, Room { size: room.size - 1, with_edge: true, depth: room.depth - 1 });
-    let least = source.pick(&[0, 0, 1, 1, 2, 3]).max(room.with_edge as u16);
+    repeated(source, body, room.with_edge)
+}
+
+/// The body with counts that often let it match.
+pub fn repeated(source: &mut Source, body: Pattern, with_edge: bool) -> Pattern {
+    let least = source.pick(&[0, 0, 1, 1, 2, 3]).max(with_edge as u16);
     let least = if source.one_in(40) { 65534 } else { least };
     let greatest = match source.below(4) {
         0 => Some(least),
@@ -83,31 +88,55 @@ pub fn repetition(source: &mut Source, room: Room) -> Pattern {
 
 fn conditioned(source: &mut Source, room: Room) -> Pattern {
     let part = grow(source, Room { size: room.size - 1, ..room });
-    let schema = types(&part).expect("grown patterns are well-typed");
+    let depth = source.below(3);
+    with_condition(source, part, Terms { keys: &KEYS, values: &VALUES }, depth)
+}
+
+/// What equalities ask for.
+#[derive(Clone, Copy)]
+pub struct Terms<'a> {
+    pub keys: &'a [u16],
+    pub values: &'a [u16],
+}
+
+/// The pattern under a condition of this depth over its nodes and edges; as it is where it binds none.
+pub fn with_condition(source: &mut Source, part: Pattern, terms: Terms, depth: usize) -> Pattern {
+    let schema = types(&part).unwrap_or_default();
     let singles: Vec<Variable> =
         schema.iter().filter(|(_, one)| matches!(one, Type::Node | Type::Edge)).map(|(v, _)| *v).collect();
     if singles.is_empty() {
         return part;
     }
-    let depth = source.below(3);
-    let condition = condition(source, &singles, depth);
+    let condition = condition(source, &singles, terms, depth);
     boxed(Form::Conditioned(Box::new(part), condition))
 }
 
-fn condition(source: &mut Source, singles: &[Variable], depth: usize) -> Condition {
+/// Of two parts one is as deep as can be, the other mostly less, so that tables stay short.
+/// Only under a negation does unknown differ from false, so most equalities have one.
+fn condition(source: &mut Source, singles: &[Variable], terms: Terms, depth: usize) -> Condition {
     if depth == 0 {
-        let side = |source: &mut Source| (source.pick(singles), source.pick(&KEYS));
-        let (variable, key) = side(source);
-        return match source.one_in(2) {
-            true => Condition::Constant { variable, key, constant: source.pick(&VALUES) },
-            false => Condition::Equal { left: (variable, key), right: side(source) },
-        };
+        return equality(source, singles, terms);
     }
-    let part = |source: &mut Source| Box::new(condition(source, singles, depth - 1));
-    match source.below(3) {
-        0 => Condition::Not(part(source)),
-        1 => Condition::And(part(source), part(source)),
-        _ => Condition::Or(part(source), part(source)),
+    let connective = if depth == 1 { source.pick(&[0, 0, 0, 1, 2]) } else { source.below(3) };
+    let deep = Box::new(condition(source, singles, terms, depth - 1));
+    if connective == 0 {
+        return Condition::Not(deep);
+    }
+    let less = source.below(depth);
+    let other = Box::new(condition(source, singles, terms, less));
+    let (left, right) = if source.one_in(2) { (deep, other) } else { (other, deep) };
+    match connective {
+        1 => Condition::And(left, right),
+        _ => Condition::Or(left, right),
+    }
+}
+
+fn equality(source: &mut Source, singles: &[Variable], terms: Terms) -> Condition {
+    let side = |source: &mut Source| (source.pick(singles), source.pick(terms.keys));
+    let (variable, key) = side(source);
+    match source.one_in(2) {
+        true => Condition::Constant { variable, key, constant: source.pick(terms.values) },
+        false => Condition::Equal { left: (variable, key), right: side(source) },
     }
 }
 
