@@ -42,6 +42,8 @@ CALLS = {
         ["page", "work", "report"],
     ),
 }
+# Cases of conditions judge a record or fill a page.
+SORTS = [*CALLS, "conditions"]
 MOST = {"image": 110, "query": 80, "page": 250, "record": 250, "bookmark": 250}
 # Of one listing so many calls at most, so that a run goes over many listings.
 MOST_OF_ONE = 4
@@ -80,8 +82,14 @@ def term(name, text):
     return f"({out})"
 
 
+def call(sort, case):
+    if sort == "conditions":
+        sort = "records" if "record" in case else "pages"
+    return CALLS[sort]
+
+
 def equation(sort, case):
-    (_, definition), takes, left = CALLS[sort]
+    (_, definition), takes, left = call(sort, case)
     lent = {name: term(name, value) for name, value in case.items() if name not in ("note", "result") and not name.endswith("-after")}
     fields = "; ".join(f"{name} = {term(name, case[name + '-after'])}" for name in left)
     return f"{definition} {takes.format(**lent)} ≡ record {{ result = {case['result']}; {fields} }}"
@@ -97,20 +105,33 @@ def small(case):
     return all(size(name, case[name]) <= most for name, most in MOST.items() if name in case)
 
 
+def depth(case):
+    """How many connectives lie around one another in a condition of the first part."""
+    words = [value for value, count in items("query", case["query"]) for _ in range(count)]
+    start, depths = 1 + 3 * words[0], []
+    for at in range(start, start + words[3], 5):
+        kind, p, q = words[at : at + 3]
+        named = {18: [p, q], 19: [p, q], 20: [p]}.get(kind, [])
+        depths.append(max((1 + depths[row] for row in named), default=0))
+    return max(depths)
+
+
 def kept(sort, seed, count):
-    """Small calls, of which only a few are of one listing."""
+    """Small calls, of which only a few are of one listing; of conditions the deepest."""
     found, listings = [], Counter()
     for case in cases(sort, seed, 60 * count):
         listing = (case.get("image"), case.get("query"))
         listings[listing] += small(case)
         if small(case) and listings[listing] <= MOST_OF_ONE:
             found.append(case)
+    if sort == "conditions":
+        found.sort(key=depth, reverse=True)
     return found[:count]
 
 
 def module(seed, count):
     names, text = [], head()
-    for sort in CALLS:
+    for sort in SORTS:
         for at, case in enumerate(kept(sort, seed, count)):
             name = f"{sort}-{at}"
             names.append(name)
