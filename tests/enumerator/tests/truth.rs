@@ -120,3 +120,25 @@ fn unknown_drops_a_factor_and_a_rival() {
     assert_eq!(ends(&steps(&[YES])), [(1, 0, 1), (1, 1, 2), (2, 0, 2)]);
     assert_eq!(ends(&steps(&[UNKNOWN, not(1)])), []);
 }
+
+/// The request's worked calls, word for word: image, query, and whether the one node is listed.
+#[test]
+fn worked_calls() {
+    let without = bytes(&[16, 2, 18, 0, 18, 0, 18, 0, 7]);
+    let valued = bytes(&[16, 2, 18, 0, 18, 0, 18, 6, 7, 0, 1, 5]);
+    let calls: [(&str, &[u8], &[u16], bool); 4] = [
+        ("absent key", &without, &[1, 1, 0, 20, 1, 1, 0, 0, 0, 16, 1, 7, 5, 0, 20, 1, 0, 0, 0, 7, 0, 2, 0, 0], false),
+        ("true or unknown", &valued,
+            &[1, 1, 0, 25, 1, 1, 0, 0, 0, 16, 1, 7, 5, 0, 16, 1, 1, 5, 0, 19, 1, 2, 0, 0, 7, 0, 3, 0, 0], true),
+        ("not (false and unknown)", &valued,
+            &[1, 1, 0, 30, 1, 1, 0, 0, 0, 16, 1, 1, 6, 0, 17, 1, 7, 1, 8, 18, 1, 2, 0, 0, 20, 3, 0, 0, 0, 7, 0, 4, 0, 0], true),
+        ("two absent values", &valued, &[1, 1, 0, 15, 1, 1, 0, 0, 0, 17, 1, 7, 1, 7, 7, 0, 1, 0, 0], false),
+    ];
+    for (name, image, query, listed) in calls {
+        let filled = fill_joined(image, query, &[], 9);
+        let (told, words) = if listed { ([0, 0, 1, 3, 1, 0, 0, 0], 3) } else { ([0, 0, 0, 0, 1, 0, 0, 0], 0) };
+        assert_eq!(filled.told, told, "{name}");
+        assert_eq!(filled.page, [&[0, 0, 0][..words], &[GUARD; 9][words..]].concat(), "{name}");
+        assert!(cleared(&filled.work), "{name}");
+    }
+}

@@ -99,7 +99,8 @@ pub struct Terms<'a> {
     pub values: &'a [u16],
 }
 
-/// The pattern under a condition of this depth over its nodes and edges; as it is where it binds none.
+/// The pattern under a condition of this depth over its nodes and edges; as it is where it
+/// binds none or has no type.
 pub fn with_condition(source: &mut Source, part: Pattern, terms: Terms, depth: usize) -> Pattern {
     let schema = types(&part).unwrap_or_default();
     let singles: Vec<Variable> =
