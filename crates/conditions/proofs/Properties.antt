@@ -8,25 +8,25 @@ use Rattle.compiled.specs.Values.{valueOf}
 use Rattle.compiled.specs.declared.ids.Element.{Element}
 use Rattle.compiled.specs.declared.look.Value.{Value}
 use Rattle.compiled.specs.declared.look.Value.the-variants as value
-use Rattle.matcher.specs.Conditions.{equal3, propertyAt}
-use Rattle.meaning.specs.Assignment.{bothEqual}
+use Rattle.matcher.specs.Conditions.{anyTruth, equalityTruths, halfKnown, propertyAt, theTruth}
+use Rattle.meaning.specs.Assignment.{equality}
 use Rattle.meaning.specs.Graph.{Graph}
+use Rattle.meaning.specs.Truth.{Unknown, decided}
 use Rattle.conditions.specs.declared.bound.Binding.{Binding}
-use Rattle.conditions.specs.declared.bound.Binding.the-variants.{Unknown, To}
+use Rattle.conditions.specs.declared.bound.Binding.the-variants as binding
 use Rattle.conditions.specs.declared.property.Property.{Property}
 use Rattle.conditions.specs.declared.property.Property.the-variants.{Open, Absent, Found}
-use Rattle.conditions.specs.declared.truth.Truth.{Truth}
-use Rattle.conditions.specs.declared.truth.Truth.the-variants as truth
+use Rattle.conditions.specs.declared.truth.Truths.{Truths}
 use Rattle.conditions.specs.Bound.{bindingOf}
 use Rattle.conditions.specs.Property.{knownOf}
-use Rattle.conditions.specs.Truth.{truthOf}
+use Rattle.conditions.specs.Truths.{truthsOf}
 
 module _ (G : Graph) (x : Binding) (k : ℕ) where
-  pub property-open : x ≡ Unknown → knownOf Open ≡ propertyAt G (bindingOf x) k
+  pub property-open : x ≡ binding.Unknown → knownOf Open ≡ propertyAt G (bindingOf x) k
   unfolding propertyAt
   property-open e = rw e
 
-  module _ (y : Element) (v : Value) (e : x ≡ To y) (h : valueOf v ≡ G .property (elementOf y) k) where
+  module _ (y : Element) (v : Value) (e : x ≡ binding.To y) (h : valueOf v ≡ G .property (elementOf y) k) where
     pub property-found : (w : ℕ) → v ≡ value.Found w → knownOf (Found w) ≡ propertyAt G (bindingOf x) k
     unfolding propertyAt
     property-found w f = rw e (ap some (ap valueOf (sym f) ∙ h))
@@ -35,47 +35,49 @@ module _ (G : Graph) (x : Binding) (k : ℕ) where
     unfolding propertyAt
     property-absent f = rw e (ap some (ap valueOf (sym f) ∙ h))
 
-module _ (a : Property) (w : ℕ) where
-  pub value-open : a ≡ Open → truthOf truth.Open ≡ equal3 (knownOf a) (some (some w))
-  unfolding equal3
-  value-open e = rw e
+module _ (a : Property) (w : ℕ) (r : Truths) where
+  pub value-open : a ≡ Open → truthsOf r ≡ anyTruth → truthsOf r ≡ equalityTruths (knownOf a) (some (some w))
+  unfolding equalityTruths halfKnown
+  value-open e h = rw e h
 
-  pub value-absent : a ≡ Absent → truthOf truth.No ≡ equal3 (knownOf a) (some (some w))
-  unfolding equal3 bothEqual
-  value-absent e = rw e
+  pub value-absent : a ≡ Absent → truthsOf r ≡ theTruth Unknown → truthsOf r ≡ equalityTruths (knownOf a) (some (some w))
+  unfolding equalityTruths equality
+  value-absent e h = rw e h
 
-  pub value-found : (v : ℕ) (r : Truth) → a ≡ Found v → truthOf r ≡ some (eqb v w) → truthOf r ≡ equal3 (knownOf a) (some (some w))
-  unfolding equal3 bothEqual
-  value-found v r e h = rw e h
+  pub value-found : (v : ℕ) → a ≡ Found v → truthsOf r ≡ theTruth (decided (eqb v w)) → truthsOf r ≡ equalityTruths (knownOf a) (some (some w))
+  unfolding equalityTruths equality
+  value-found v e h = rw e h
 
-none-open : (a : Option (Option ℕ)) → none ≡ equal3 a none
-unfolding equal3
-none-open none = refl
-none-open (some a) = refl
+-- an absent side decides
+absent-side : (a : Option (Option ℕ)) → equalityTruths a (some none) ≡ theTruth Unknown
+unfolding equalityTruths halfKnown equality
+absent-side none = refl
+absent-side (some none) = refl
+absent-side (some (some w)) = refl
 
-module _ (a b : Property) where
-  pub equal-value : (w : ℕ) (r : Truth) → b ≡ Found w → truthOf r ≡ equal3 (knownOf a) (some (some w)) → truthOf r ≡ equal3 (knownOf a) (knownOf b)
-  equal-value w r e h = rw e h
+module _ (a b : Property) (r : Truths) where
+  pub equal-value : (w : ℕ) → b ≡ Found w → truthsOf r ≡ equalityTruths (knownOf a) (some (some w)) → truthsOf r ≡ equalityTruths (knownOf a) (knownOf b)
+  equal-value w e h = rw e h
 
-  pub equal-open : b ≡ Open → truthOf truth.Open ≡ equal3 (knownOf a) (knownOf b)
-  equal-open e = rw e (none-open (knownOf a))
+  pub equal-absent : b ≡ Absent → truthsOf r ≡ theTruth Unknown → truthsOf r ≡ equalityTruths (knownOf a) (knownOf b)
+  equal-absent e h = rw e (h ∙ sym (absent-side (knownOf a)))
 
-  pub absent-open : b ≡ Absent → a ≡ Open → truthOf truth.Open ≡ equal3 (knownOf a) (knownOf b)
-  unfolding equal3
-  absent-open e f = rw (e, f)
+  pub open-open : b ≡ Open → a ≡ Open → truthsOf r ≡ anyTruth → truthsOf r ≡ equalityTruths (knownOf a) (knownOf b)
+  unfolding equalityTruths
+  open-open e f h = rw (e, f) h
 
-  pub absent-absent : b ≡ Absent → a ≡ Absent → truthOf truth.No ≡ equal3 (knownOf a) (knownOf b)
-  unfolding equal3 bothEqual
-  absent-absent e f = rw (e, f)
+  pub open-absent : b ≡ Open → a ≡ Absent → truthsOf r ≡ theTruth Unknown → truthsOf r ≡ equalityTruths (knownOf a) (knownOf b)
+  unfolding equalityTruths halfKnown
+  open-absent e f h = rw (e, f) h
 
-  pub absent-found : (v : ℕ) → b ≡ Absent → a ≡ Found v → truthOf truth.No ≡ equal3 (knownOf a) (knownOf b)
-  unfolding equal3 bothEqual
-  absent-found v e f = rw (e, f)
+  pub open-found : (v : ℕ) → b ≡ Open → a ≡ Found v → truthsOf r ≡ anyTruth → truthsOf r ≡ equalityTruths (knownOf a) (knownOf b)
+  unfolding equalityTruths halfKnown
+  open-found v e f h = rw (e, f) h
 
-module _ (G : Graph) (x : Binding) (k : ℕ) (a : Property) (r : Truth) (e : knownOf a ≡ propertyAt G (bindingOf x) k) where
-  pub constant-is : (w : ℕ) → truthOf r ≡ equal3 (knownOf a) (some (some w)) → truthOf r ≡ equal3 (propertyAt G (bindingOf x) k) (some (some w))
-  constant-is w h = h ∙ ap (λ (z : Option (Option ℕ)). equal3 z (some (some w))) e
+module _ (G : Graph) (x : Binding) (k : ℕ) (a : Property) (r : Truths) (e : knownOf a ≡ propertyAt G (bindingOf x) k) where
+  pub constant-is : (w : ℕ) → truthsOf r ≡ equalityTruths (knownOf a) (some (some w)) → truthsOf r ≡ equalityTruths (propertyAt G (bindingOf x) k) (some (some w))
+  constant-is w h = h ∙ ap (λ (z : Option (Option ℕ)). equalityTruths z (some (some w))) e
 
-  pub properties-are : (y : Binding) (l : ℕ) (b : Property) → knownOf b ≡ propertyAt G (bindingOf y) l → truthOf r ≡ equal3 (knownOf a) (knownOf b)
-      → truthOf r ≡ equal3 (propertyAt G (bindingOf x) k) (propertyAt G (bindingOf y) l)
-  properties-are y l b f h = h ∙ ap₂ equal3 e f
+  pub properties-are : (y : Binding) (l : ℕ) (b : Property) → knownOf b ≡ propertyAt G (bindingOf y) l → truthsOf r ≡ equalityTruths (knownOf a) (knownOf b)
+      → truthsOf r ≡ equalityTruths (propertyAt G (bindingOf x) k) (propertyAt G (bindingOf y) l)
+  properties-are y l b f h = h ∙ ap₂ equalityTruths e f

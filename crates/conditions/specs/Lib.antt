@@ -1,4 +1,4 @@
-pub mod Truth
+pub mod Truths
 pub mod Bound
 pub mod Property
 pub mod Evaluates

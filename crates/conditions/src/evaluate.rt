@@ -2,7 +2,8 @@
 use crate::bound::Bound;
 use crate::property::equal_constant;
 use crate::property::equal_properties;
-use crate::truth::Truth;
+use crate::truth::Truths;
+use crate::truth::any_truth;
 use crate::truth::conjoined;
 use crate::truth::disjoined;
 use crate::truth::negated;
@@ -13,8 +14,8 @@ ghost use Rattle.rows.specs.Faults.{Stands};
 ghost use Rattle.conditions.specs.Evaluates.{Evaluates};
 ghost use Rattle.compiled.specs.Parts.{Tabled, tableIn};
 
-// The truth of the row's condition, open where it hangs on an element that is not known.
-pub fn condition(graph: &[u64], plan: &[u64], row: usize, b: Bound) -> Truth
+// The truth values that the row's condition can still have, with some elements not known yet.
+pub fn condition(graph: &[u64], plan: &[u64], row: usize, b: Bound) -> Truths
     requires { ⌜ Lawful (now graph) ⌝ }
     requires { ⌜ Tabled (now plan) × Stands (tableIn (now plan)) row ⌝ }
     ensures { λ r. ⌜ Evaluates (graphIn (now (graph .entry))) (tableIn (now (plan .entry))) row b r ⌝ }
@@ -33,6 +34,6 @@ pub fn condition(graph: &[u64], plan: &[u64], row: usize, b: Bound) -> Truth
             condition(graph, plan, r.q, b),
         ),
         20 => negated(condition(graph, plan, r.p, b)),
-        _ => Truth::Open,
+        _ => any_truth(),
     }
 }

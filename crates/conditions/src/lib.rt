@@ -1,5 +1,5 @@
-// Conditions of a pattern table while some elements are not known yet: each is true, false, or open, as the model has it; with every
-// element known it is the condition's truth.
+// Conditions of a pattern table while some elements are not known yet: the truth values that each can still have, as the model has it; with
+// every element known it is the condition's own.
 mod bound;
 mod evaluate;
 mod known;
@@ -11,5 +11,5 @@ pub use bound::Bound;
 pub use bound::Slot;
 pub use evaluate::condition;
 pub use known::bound_by;
-pub use truth::Truth;
+pub use truth::Truths;
 pub use truth::may_hold;

@@ -1,63 +1,83 @@
-// The three truth values and their connectives.
+// The truth values that a condition can still have, and their connectives (02, Q-2: true, false, unknown).
 ghost use mathlib.Core.Path.{_≡_};
-ghost use mathlib.Core.Option.{some};
-ghost use Rattle.matcher.specs.Conditions.{and3, mayHold, not3, or3};
-ghost use Rattle.conditions.specs.Truth.{truthOf};
+ghost use Rattle.matcher.specs.Conditions.{andTruths, anyTruth, mayHold, notTruths, orTruths, theTruth};
+ghost use Rattle.meaning.specs.Truth.{Unknown, decided};
+ghost use Rattle.conditions.specs.Truths.{truthsOf};
 
-// False, true, or open.
-pub enum Truth {
-    No,
-    Yes,
-    Open,
+// Which of the three are still possible: true, false, unknown.
+pub struct Truths {
+    pub yes: bool,
+    pub no: bool,
+    pub neither: bool,
 }
 
-// A truth that is known.
-pub fn truth_of(b: bool) -> Truth
-    ensures { λ r. ⌜ truthOf r ≡ some b ⌝ }
+// All of them: nothing is known yet.
+pub fn any_truth() -> Truths
+    ensures { λ r. ⌜ truthsOf r ≡ anyTruth ⌝ }
 {
-    if b { Truth::Yes } else { Truth::No }
-}
-
-// Kind 20: an open one stays open.
-pub fn negated(a: Truth) -> Truth
-    ensures { λ r. ⌜ truthOf r ≡ not3 (truthOf a) ⌝ }
-{
-    match a {
-        Truth::No => Truth::Yes,
-        Truth::Yes => Truth::No,
-        Truth::Open => Truth::Open,
+    Truths {
+        yes: true,
+        no: true,
+        neither: true,
     }
 }
 
-// One false part decides, whatever the other is.
-pub fn conjoined(a: Truth, b: Truth) -> Truth
-    ensures { λ r. ⌜ truthOf r ≡ and3 (truthOf a) (truthOf b) ⌝ }
+// Unknown, and nothing else.
+pub fn unknown() -> Truths
+    ensures { λ r. ⌜ truthsOf r ≡ theTruth Unknown ⌝ }
 {
-    match a {
-        Truth::No => Truth::No,
-        Truth::Yes => b,
-        Truth::Open => match b {
-            Truth::No => Truth::No,
-            Truth::Yes => Truth::Open,
-            Truth::Open => Truth::Open,
-        },
+    Truths {
+        yes: false,
+        no: false,
+        neither: true,
     }
 }
 
-// One true part decides, whatever the other is.
-pub fn disjoined(a: Truth, b: Truth) -> Truth
-    ensures { λ r. ⌜ truthOf r ≡ or3 (truthOf a) (truthOf b) ⌝ }
+// True or false.
+pub fn decided(b: bool) -> Truths
+    ensures { λ r. ⌜ truthsOf r ≡ theTruth (decided b) ⌝ }
+{
+    Truths {
+        yes: b,
+        no: !b,
+        neither: false,
+    }
+}
+
+// Kind 20.
+pub fn negated(a: Truths) -> Truths
+    ensures { λ r. ⌜ truthsOf r ≡ notTruths (truthsOf a) ⌝ }
+{
+    Truths {
+        yes: a.no,
+        no: a.yes,
+        neither: a.neither,
+    }
+}
+
+// Kind 18: false by one side alone, true by both, else unknown.
+pub fn conjoined(a: Truths, b: Truths) -> Truths
+    ensures { λ r. ⌜ truthsOf r ≡ andTruths (truthsOf a) (truthsOf b) ⌝ }
+{
+    let by_first = a.neither & (b.neither | b.yes);
+    let by_second = a.yes & b.neither;
+    Truths {
+        yes: a.yes & b.yes,
+        no: a.no | b.no,
+        neither: by_first | by_second,
+    }
+}
+
+// Kind 19: true by one side alone, false by both, else unknown.
+pub fn disjoined(a: Truths, b: Truths) -> Truths
+    ensures { λ r. ⌜ truthsOf r ≡ orTruths (truthsOf a) (truthsOf b) ⌝ }
 {
     negated(conjoined(negated(a), negated(b)))
 }
 
-// Whether the condition is not refused.
-pub fn may_hold(a: Truth) -> bool
-    ensures { λ r. ⌜ r ≡ mayHold (truthOf a) ⌝ }
+// Whether it can still be true: a match is kept on nothing else.
+pub fn may_hold(a: Truths) -> bool
+    ensures { λ r. ⌜ r ≡ mayHold (truthsOf a) ⌝ }
 {
-    match a {
-        Truth::No => false,
-        Truth::Yes => true,
-        Truth::Open => true,
-    }
+    a.yes
 }

@@ -2,6 +2,7 @@ pub mod Opened
 pub mod Logic
 pub mod Eight
 pub mod Members
+pub mod ThreeValues
 pub mod Unused
 pub mod Derived
 pub mod Types

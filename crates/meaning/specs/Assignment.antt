@@ -2,7 +2,6 @@
 use mathlib.Core.Path.{_≡_}
 use mathlib.Core.List.{List, [], _∷_}
 use mathlib.Core.Option.{Option, none, some}
-use mathlib.Core.Bool.{Bool, false, not, _&&_, _||_}
 use mathlib.Core.Logic.{_⊎_}
 use Prim.Native.Nat.{ℕ, suc, _<_, _≤_}
 use native.Mathlib.Decide.{ℕ-discrete}
@@ -11,6 +10,7 @@ use Rattle.meaning.specs.Basics.{if_then_else_, orElse}
 use Rattle.meaning.specs.Graph.{Element, theNode, theEdge, Element-discrete, Graph, Walk, Walk-discrete}
 use Rattle.meaning.specs.Pattern.{Condition, equalsConstant, equalsProperty, and, or, neg, Pattern, inVar}
 use Rattle.meaning.specs.Typing.{Ty, Node, Edge, Maybe, Group, Found, absent, clash, typed}
+use Rattle.meaning.specs.Truth.{Truth, Unknown, decided, negation, conjunction, disjunction}
 
 infixl 65 _∪_
 mutual
@@ -92,21 +92,22 @@ module _ (n m k : ℕ) where
   Conforms (typed τ) o = (v : Value) × (o ≡ some v) × Of τ v
 
 -- ------------------------------------------------------------------ μ ⊨ θ
+-- none: the property is absent
 unfoldable pub propertyOf : Graph → Option Value → ℕ → Option ℕ
 propertyOf G none k = none
 propertyOf G (some (one x)) k = G .property x k
 propertyOf G (some nothing) k = none
 propertyOf G (some (group g)) k = none
 
--- both sides are defined and equal
-unfoldable pub bothEqual : Option ℕ → Option ℕ → Bool
-bothEqual none b = false
-bothEqual (some a) none = false
-bothEqual (some a) (some b) = eqb a b
+-- 02, Q-2: with an undefined side it is unknown (01: false)
+unfoldable pub equality : Option ℕ → Option ℕ → Truth
+equality none b = Unknown
+equality (some a) none = Unknown
+equality (some a) (some b) = decided (eqb a b)
 
-unfoldable pub holds : Graph → Assignment → Condition → Bool
-holds G μ (equalsConstant x k c) = bothEqual (propertyOf G (μ x) k) (some c)
-holds G μ (equalsProperty x k y l) = bothEqual (propertyOf G (μ x) k) (propertyOf G (μ y) l)
-holds G μ (and s t) = holds G μ s && holds G μ t
-holds G μ (or s t) = holds G μ s || holds G μ t
-holds G μ (neg s) = not (holds G μ s)
+unfoldable pub holds : Graph → Assignment → Condition → Truth
+holds G μ (equalsConstant x k c) = equality (propertyOf G (μ x) k) (some c)
+holds G μ (equalsProperty x k y l) = equality (propertyOf G (μ x) k) (propertyOf G (μ y) l)
+holds G μ (and s t) = conjunction (holds G μ s) (holds G μ t)
+holds G μ (or s t) = disjunction (holds G μ s) (holds G μ t)
+holds G μ (neg s) = negation (holds G μ s)

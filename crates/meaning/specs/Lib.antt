@@ -2,8 +2,10 @@ pub mod Basics
 pub mod Graph
 pub mod Pattern
 pub mod Typing
+pub mod Truth
 pub mod Assignment
 pub mod Meaning
+pub mod Before
 pub mod Answer
 pub mod Record
 pub mod Listing

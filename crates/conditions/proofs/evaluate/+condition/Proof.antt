@@ -12,6 +12,7 @@ use Rattle.conditions.proofs.evaluate.+condition.Lts-condition as condi
 use Rattle.conditions.proofs.bound.Bound.of.Reads as of-reads
 use Rattle.conditions.proofs.property.equal_constant.Reads as equal-constant-reads
 use Rattle.conditions.proofs.property.equal_properties.Reads as equal-properties-reads
+use Rattle.conditions.proofs.truth.any_truth.Reads as any-truth-reads
 use Rattle.conditions.proofs.truth.conjoined.Reads as conjoined-reads
 use Rattle.conditions.proofs.truth.disjoined.Reads as disjoined-reads
 use Rattle.conditions.proofs.truth.negated.Reads as negated-reads
@@ -30,7 +31,7 @@ condition-below t =
     and 2 condition-kinds.ps (falls 2 condition-kinds.ps _<_ μ-condition t) condition.Pre
 
 abbrev condition-cs : ℕ → condition-lts.Claims
-condition-cs t = (row-at-reads.Asked, row-at-reads.Learnt, of-reads.Asked, of-reads.Learnt, equal-constant-reads.Asked, equal-constant-reads.Learnt, equal-properties-reads.Asked, equal-properties-reads.Learnt, condition-below t, condition.Post, conjoined-reads.Asked, conjoined-reads.Learnt, disjoined-reads.Asked, disjoined-reads.Learnt, negated-reads.Asked, negated-reads.Learnt)
+condition-cs t = (row-at-reads.Asked, row-at-reads.Learnt, of-reads.Asked, of-reads.Learnt, equal-constant-reads.Asked, equal-constant-reads.Learnt, equal-properties-reads.Asked, equal-properties-reads.Learnt, condition-below t, condition.Post, conjoined-reads.Asked, conjoined-reads.Learnt, disjoined-reads.Asked, disjoined-reads.Learnt, negated-reads.Asked, negated-reads.Learnt, any-truth-reads.Asked, any-truth-reads.Learnt)
 
 condition-row-at-requires : (t : ℕ) → condition-lts.Need-row-at-requires (condition-cs t) (condition-at t) condition.Post
 condition-row-at-requires t c κs = search needs
@@ -83,6 +84,9 @@ condition-condition-requires-5 t c κs = search (not-row, lower-falls, lower-sta
 condition-negated-requires : (t : ℕ) → condition-lts.Need-negated-requires (condition-cs t) (condition-at t) condition.Post
 condition-negated-requires t c κs = search needs
 
+condition-any-truth-requires : (t : ℕ) → condition-lts.Need-any-truth-requires (condition-cs t) (condition-at t) condition.Post
+condition-any-truth-requires t c κs = search needs
+
 condition-returns : (t : ℕ) → condition-lts.Need-returns (condition-cs t) (condition-at t) condition.Post
 condition-returns t c = search (constant, arith)
 
@@ -122,6 +126,7 @@ pub +condition-spec : {M : Type 1} → statement M
     (condition-disjoined-requires t)
     (condition-condition-requires-5 t)
     (condition-negated-requires t)
+    (condition-any-truth-requires t)
     (condition-returns t)
     (condition-returns-2 t)
     (condition-returns-3 t)

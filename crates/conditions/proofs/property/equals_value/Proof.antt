@@ -1,21 +1,27 @@
 -- `conditions::property::equals_value` meets its contract. Assumes nothing.
-use Rattle.conditions.proofs.Properties.{value-absent, value-found, value-open}
 use native.Mathlib.Omega.{arith}
 use borrow.Author.Needs.{needs}
+use Rattle.conditions.proofs.Properties.{value-absent, value-found, value-open}
 use Rattle.conditions.proofs.property.equals_value.Statement.{statement}
 use Rattle.conditions.proofs.property.equals_value.Tie as tie
 
 enum-told : tie.Need-enum-told
 enum-told c = search needs
 
+any-truth-requires : tie.Need-any-truth-requires
+any-truth-requires c κs = search needs
+
 enum-told-2 : tie.Need-enum-told-2
 enum-told-2 c = search needs
+
+unknown-requires : tie.Need-unknown-requires
+unknown-requires c κs = search needs
 
 enum-known-a : tie.Need-enum-known-a
 enum-known-a c = search needs
 
-truth-of-requires : tie.Need-truth-of-requires
-truth-of-requires c κs = search needs
+decided-requires : tie.Need-decided-requires
+decided-requires c κs = search needs
 
 returns : tie.Need-returns
 returns c = search (value-open, arith)
@@ -29,4 +35,13 @@ returns-3 c = search (value-found, arith)
 pub equals-value-spec : {M : Type 1} → statement M
 equals-value-spec =
     tie.close
-    (tie.spec enum-told enum-told-2 enum-known-a truth-of-requires returns returns-2 returns-3)
+    (tie.spec
+    enum-told
+    any-truth-requires
+    enum-told-2
+    unknown-requires
+    enum-known-a
+    decided-requires
+    returns
+    returns-2
+    returns-3)
