@@ -113,6 +113,11 @@ uint64_t gpc_read_image(const uint8_t *image, size_t image_bytes, uint8_t *repor
 #define GPC_KIND_OR 19           /* p and q condition rows */
 #define GPC_KIND_NOT 20          /* p a condition row */
 
+/* A condition is true, false or unknown, and a match is kept only where it is true. An equality (16, 17) is unknown where a side is
+ * absent, also where both are. Not: of unknown it is unknown. And: false where a side is false, true where both are true, else unknown.
+ * Or: true where a side is true, false where both are false, else unknown. So neither a comparison nor its negation keeps an element
+ * that lacks the property. */
+
 #define GPC_UNBOUNDED 65535 /* a repetition's greatest count: no bound */
 
 /* The restrictors, each part's own. The shortest of a part are found before parts are joined: a shorter path of the part shuts out a

@@ -55,7 +55,7 @@ fn put_and_ask(pattern: &mut [u16; 325], count: usize)
 }
 
 // A table of so many rows, which has room for 65.
-fn of_rows(count: usize)
+pub fn of_rows(count: usize)
     requires { ⌜ (4 ≤ count) × (count ≤ 65) ⌝ }
 {
     let mut pattern = [0u16; 325];

@@ -1,4 +1,5 @@
-// Runs the examples of 01 that are not marked there. The file stdout has what each must print.
+// Runs the examples of 01 that are not marked there, and those of Q-2. The file stdout has what each must print.
+mod absent;
 mod graphs;
 mod limits;
 mod patterns;
@@ -35,11 +36,12 @@ fn empty() {
     on_nothing(&eighth);
 }
 
-// The examples in the order of 01.
+// The examples in the order of 01 and 02.
 fn main() {
     shortest();
     limits::nodes();
     limits::rows();
     limits::variables();
     empty();
+    absent::denials();
 }

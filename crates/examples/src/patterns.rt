@@ -45,6 +45,44 @@ pub fn node(variable: u16) -> [u16; 5]
     [1, variable, 0, 0, 0]
 }
 
+// Key 7 of a node equals 5, or does not.
+pub fn equal_or_not() -> [u16; 30]
+    ensures { λ r. ⌜ 30 ≡ length r ⌝ }
+{
+    [
+        1,
+        1,
+        0,
+        0,
+        0,
+        16,
+        1,
+        7,
+        5,
+        0,
+        16,
+        1,
+        7,
+        5,
+        0,
+        20,
+        2,
+        0,
+        0,
+        0,
+        19,
+        1,
+        3,
+        0,
+        0,
+        7,
+        0,
+        4,
+        0,
+        0,
+    ]
+}
+
 // A row whose last number is 0.
 fn put_row(pattern: &mut [u16; 325], row: usize, kind: u16, p: u16, q: u16, r: u16)
     requires { ⌜ row < 65 ⌝ }

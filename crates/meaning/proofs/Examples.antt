@@ -103,8 +103,8 @@ examples =
     ∷ lists-only one-node (1 ∷ 1 ∷ 0 ∷ 0 ∷ 0 ∷ 16 ∷ 1 ∷ 7 ∷ 5 ∷ 0 ∷ 20 ∷ 1 ∷ 0 ∷ 0 ∷ 0 ∷ 20 ∷ 2 ∷ 0 ∷ 0 ∷ 0 ∷ 7 ∷ 0 ∷ 3 ∷ 0 ∷ 0 ∷ []) 1 []
     -- 02, Q-2: key 7 equals 5, or not (key 7 equals 5), keeps nothing there
     ∷ lists-only one-node (1 ∷ 1 ∷ 0 ∷ 0 ∷ 0 ∷ 16 ∷ 1 ∷ 7 ∷ 5 ∷ 0 ∷ 16 ∷ 1 ∷ 7 ∷ 5 ∷ 0 ∷ 20 ∷ 2 ∷ 0 ∷ 0 ∷ 0 ∷ 19 ∷ 1 ∷ 3 ∷ 0 ∷ 0 ∷ 7 ∷ 0 ∷ 4 ∷ 0 ∷ 0 ∷ []) 1 []
-    -- 02, Q-2: not (key 7 equals key 7), both absent, keeps nothing either
-    ∷ lists-only one-node (1 ∷ 1 ∷ 0 ∷ 0 ∷ 0 ∷ 17 ∷ 1 ∷ 7 ∷ 1 ∷ 7 ∷ 20 ∷ 1 ∷ 0 ∷ 0 ∷ 0 ∷ 7 ∷ 0 ∷ 2 ∷ 0 ∷ 0 ∷ []) 1 []
+    -- 02, Q-2: nor does key 7 equals key 7, both absent, or not that
+    ∷ lists-only one-node (1 ∷ 1 ∷ 0 ∷ 0 ∷ 0 ∷ 17 ∷ 1 ∷ 7 ∷ 1 ∷ 7 ∷ 17 ∷ 1 ∷ 7 ∷ 1 ∷ 7 ∷ 20 ∷ 2 ∷ 0 ∷ 0 ∷ 0 ∷ 19 ∷ 1 ∷ 3 ∷ 0 ∷ 0 ∷ 7 ∷ 0 ∷ 4 ∷ 0 ∷ 0 ∷ []) 1 []
     ∷ []
 
 -- beside the table, for the rule of the shortest: T, forward or undirected, 1 to unbounded, restrictor 3. From 0 to 2 only by edge 2; from 0 to 0 in 3 edges

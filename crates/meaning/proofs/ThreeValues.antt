@@ -46,7 +46,8 @@ decided-true false = refl
 -- ------------------------------------------------------------------ a condition without `not`
 equal-kept : (a b : Option ℕ) → isTrue (equality a b) ≡ bothEqual a b
 unfolding opened bothEqual
-equal-kept none b = refl
+equal-kept none none = refl
+equal-kept none (some b) = refl
 equal-kept (some a) none = refl
 equal-kept (some a) (some b) = decided-true (eqb a b)
 

@@ -101,7 +101,8 @@ propertyOf G (some (group g)) k = none
 
 -- 02, Q-2: with an undefined side it is unknown (01: false)
 unfoldable pub equality : Option ℕ → Option ℕ → Truth
-equality none b = Unknown
+equality none none = Unknown
+equality none (some b) = Unknown
 equality (some a) none = Unknown
 equality (some a) (some b) = decided (eqb a b)
 
