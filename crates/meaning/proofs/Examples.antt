@@ -46,6 +46,9 @@ one-loop = low-first (16 ∷ 2 ∷ 18 ∷ 6 ∷ 24 ∷ 0 ∷ 24 ∷ 0 ∷ 7 ∷ 
 abbrev one-node : List ℕ
 one-node = low-first (16 ∷ 2 ∷ 18 ∷ 0 ∷ 18 ∷ 0 ∷ 18 ∷ 0 ∷ 7 ∷ [])
 
+abbrev one-value : List ℕ
+one-value = low-first (16 ∷ 2 ∷ 18 ∷ 0 ∷ 18 ∷ 0 ∷ 18 ∷ 6 ∷ 7 ∷ 0 ∷ 1 ∷ 5 ∷ [])
+
 abbrev pub P : List ℕ
 P = 2 ∷ 1 ∷ 0 ∷ 0 ∷ 0 ∷ 8 ∷ 0 ∷ 0 ∷ 1 ∷ 65535 ∷ []
 
@@ -105,6 +108,9 @@ examples =
     ∷ lists-only one-node (1 ∷ 1 ∷ 0 ∷ 0 ∷ 0 ∷ 16 ∷ 1 ∷ 7 ∷ 5 ∷ 0 ∷ 16 ∷ 1 ∷ 7 ∷ 5 ∷ 0 ∷ 20 ∷ 2 ∷ 0 ∷ 0 ∷ 0 ∷ 19 ∷ 1 ∷ 3 ∷ 0 ∷ 0 ∷ 7 ∷ 0 ∷ 4 ∷ 0 ∷ 0 ∷ []) 1 []
     -- 02, Q-2: nor does key 7 equals key 7, both absent, or not that
     ∷ lists-only one-node (1 ∷ 1 ∷ 0 ∷ 0 ∷ 0 ∷ 17 ∷ 1 ∷ 7 ∷ 1 ∷ 7 ∷ 17 ∷ 1 ∷ 7 ∷ 1 ∷ 7 ∷ 20 ∷ 2 ∷ 0 ∷ 0 ∷ 0 ∷ 19 ∷ 1 ∷ 3 ∷ 0 ∷ 0 ∷ 7 ∷ 0 ∷ 4 ∷ 0 ∷ 0 ∷ []) 1 []
+    -- 02, Q-2: a node whose key 1 is 5 and that lacks keys 7 and 8: unknown or true; not (false and unknown)
+    ∷ lists-only one-value (1 ∷ 1 ∷ 0 ∷ 0 ∷ 0 ∷ 16 ∷ 1 ∷ 7 ∷ 5 ∷ 0 ∷ 16 ∷ 1 ∷ 1 ∷ 5 ∷ 0 ∷ 19 ∷ 1 ∷ 2 ∷ 0 ∷ 0 ∷ 7 ∷ 0 ∷ 3 ∷ 0 ∷ 0 ∷ []) 1 ((0 ∷ 0 ∷ 0 ∷ []) ∷ [])
+    ∷ lists-only one-value (1 ∷ 1 ∷ 0 ∷ 0 ∷ 0 ∷ 16 ∷ 1 ∷ 1 ∷ 6 ∷ 0 ∷ 17 ∷ 1 ∷ 7 ∷ 1 ∷ 8 ∷ 18 ∷ 1 ∷ 2 ∷ 0 ∷ 0 ∷ 20 ∷ 3 ∷ 0 ∷ 0 ∷ 0 ∷ 7 ∷ 0 ∷ 4 ∷ 0 ∷ 0 ∷ []) 1 ((0 ∷ 0 ∷ 0 ∷ []) ∷ [])
     ∷ []
 
 -- beside the table, for the rule of the shortest: T, forward or undirected, 1 to unbounded, restrictor 3. From 0 to 2 only by edge 2; from 0 to 0 in 3 edges
