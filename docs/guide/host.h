@@ -14,7 +14,7 @@ enum { NODES = 6, LEADS_TO = 1, LOADED = 2, PROCESSOR = 3, PRESENT = 1 };
  * map loaded. */
 static const uint8_t image[] = {
     /* where each section is, and its bytes */
-    W(16), W(12), W(28), W(36), W(64), W(32), W(96), W(6),
+    W(16), W(12), W(28), W(36), W(64), W(32), W(96), W(12),
     /* nodes: outer numbers, of the maps and then of the processors */
     W(11), W(12), W(21), W(32), W(40), W(41),
     /* edges: from, to, directed */
@@ -24,8 +24,8 @@ static const uint8_t image[] = {
     /* labels: element, label; element 4 is node 4, element 6 is edge 0 */
     W(4), W(PROCESSOR), W(5), W(PROCESSOR), W(6), W(LEADS_TO), W(7), W(LEADS_TO), W(8), W(LEADS_TO), W(9), W(LEADS_TO), W(10), W(LOADED),
     W(11), W(LOADED),
-    /* properties: element, key, value; element 3 is node 3 */
-    W(3), W(PRESENT), W(1),
+    /* properties: element, key, value; element 3 is node 3. Nodes 0, 1, 4 and 5 lack the key */
+    W(2), W(PRESENT), W(0), W(3), W(PRESENT), W(1),
 };
 
 /* Every chain of maps that leads to the present one: a query of one part. */
