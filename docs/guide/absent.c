@@ -2,12 +2,12 @@
 #include "host.h"
 #include "record.h"
 
-/* Every node; those with key PRESENT of value 1; those of which this is denied. */
+/* Every node; those with key PRESENT of value 1; those under the negation of this. */
 static const uint16_t every[] = {1, GPC_TRAIL, 0, 5, GPC_KIND_NODE, 1, 0, 0, 0};
 static const uint16_t equal[] = {
     1, GPC_TRAIL, 0, 15, GPC_KIND_NODE, 1, 0, 0, 0, GPC_KIND_CONSTANT, 1, PRESENT, 1, 0, GPC_KIND_CONDITIONED, 0, 1, 0, 0,
 };
-static const uint16_t denied[] = {
+static const uint16_t negated[] = {
     1, GPC_TRAIL, 0, 20, GPC_KIND_NODE, 1, 0, 0, 0, GPC_KIND_CONSTANT, 1, PRESENT, 1, 0, GPC_KIND_NOT, 1, 0, 0, 0,
     GPC_KIND_CONDITIONED, 0, 2, 0, 0,
 };
@@ -44,7 +44,7 @@ static void print_without(const char *title, const struct nodes *l, const struct
 int main(void)
 {
     static const struct nodes none;
-    struct nodes all = list(every, sizeof every / 2), kept = list(equal, sizeof equal / 2), others = list(denied, sizeof denied / 2);
+    struct nodes all = list(every, sizeof every / 2), kept = list(equal, sizeof equal / 2), others = list(negated, sizeof negated / 2);
     print_without("every node", &all, &none);
     print_without("present = 1", &kept, &none);
     print_without("not present = 1", &others, &none);
