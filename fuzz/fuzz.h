@@ -37,6 +37,9 @@ struct subject {
 void make_subject(struct subject *s, struct bytes *b);
 void make_query(struct subject *s, struct bytes *b);
 
+/* Puts a condition on one or both of the variables behind the rows of a query's one part; its row. It has seven rows at most. */
+unsigned add_condition(struct subject *s, struct bytes *b, const unsigned variable[2]);
+
 /* A part of a query's words. */
 struct part {
     uint16_t restrictor, name;
@@ -94,8 +97,14 @@ void check_listing(const struct subject *s, const struct listing *l, struct byte
 /* Checks the listing of a subject against those of its parts alone: by trails, and joined. */
 void check_join(const struct subject *s, const struct listing *l);
 
+/* Checks a part of a subject under conditions against the part without them, and the listing against those of the query with its
+ * conditions written otherwise. */
+void check_conditions(const struct subject *s, const uint16_t *types, const struct listing *l, struct bytes *b);
+
 struct counts {
     uint64_t inputs, calls, images, queries, listings, complete, records, pages, judged, joined, joined_records, given_up;
+    uint64_t conditions, written;
+    uint64_t truths[3]; /* records for which a condition was false, unknown, true */
     uint64_t refused[GPC_QUERY_UNTYPED + 1];
 };
 

@@ -91,6 +91,20 @@ static unsigned condition(struct making *m, unsigned depth)
     return put_row(m, choice == 4 ? 18 : 19, p, q, 0, 0);
 }
 
+unsigned add_condition(struct subject *s, struct bytes *b, const unsigned variable[2])
+{
+    static struct making m;
+    m.b = b;
+    m.words = s->query[3];
+    m.recent[0] = variable[0];
+    m.recent[1] = variable[1];
+    unsigned row = condition(&m, 2);
+    memcpy(s->query + s->query_words, m.word + s->query[3], 2 * (m.words - s->query[3]));
+    s->query_words += m.words - s->query[3];
+    s->query[3] = (uint16_t)m.words;
+    return row;
+}
+
 /* A repetition over a row, which gets an edge where it can match without one, but for a few that are to be refused. */
 static unsigned repeated(struct making *m, unsigned body)
 {

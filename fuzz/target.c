@@ -50,6 +50,8 @@ void print_counts(void)
            c->queries, c->pages, c->judged);
     printf("%" PRIu64 " listings, %" PRIu64 " of them to their end, with %" PRIu64 " records\n", c->listings, c->complete, c->records);
     printf("%" PRIu64 " joins compared with their parts, with %" PRIu64 " records\n", c->joined, c->joined_records);
+    printf("%" PRIu64 " conditions compared with their negations: true for %" PRIu64 " records, false for %" PRIu64 ", unknown for %" PRIu64
+           "; %" PRIu64 " queries written otherwise\n", c->conditions, c->truths[2], c->truths[0], c->truths[1], c->written);
     fputs("calls refused, by number:", stdout);
     for (int i = 1; i <= GPC_QUERY_UNTYPED; i++)
         if (counts.refused[i] > 0)
@@ -136,6 +138,7 @@ static void run_listing(const struct subject *s, const uint16_t *types, struct b
     note_shape(s, &l);
     check_listing(s, &l, b);
     check_join(s, &l);
+    check_conditions(s, types, &l, b);
 }
 
 static void run_input(struct bytes b)

@@ -22,7 +22,9 @@ enum {
     ONE_TYPE_TOO_MANY,
     CLASH_PASSED,
     PARTS_SWAPPED,
-    SECOND_OF_LAST_DROPPED
+    SECOND_OF_LAST_DROPPED,
+    ABSENT_AS_FALSE,
+    AND_AS_OR
 };
 
 uint64_t __real_gpc_read_image(const uint8_t *, size_t, uint8_t *, size_t);
@@ -32,8 +34,8 @@ uint64_t __real_gpc_judge_record(const uint8_t *, size_t, const uint16_t *, size
 uint64_t __real_gpc_fill_page(const uint8_t *, size_t, const uint16_t *, size_t, const uint16_t *, size_t, uint16_t *, size_t, uint16_t *,
                               size_t, uint8_t *, size_t);
 
-/* A query that the wrong library takes for an accepted one that it is lent: shortest as any, or the first two parts the other way
- * round. */
+/* A query that the wrong library takes for an accepted one that it is lent: shortest as any, the first two parts the other way round, or
+ * and as or. */
 static const uint16_t *other_query(const uint16_t *query, size_t words)
 {
     static uint16_t other[MOST_QUERY], types[GPC_TYPE_WORDS];
@@ -54,9 +56,52 @@ static const uint16_t *other_query(const uint16_t *query, size_t words)
         uint16_t head[] = {(uint16_t)(restrictor - (eased ? 2 : 0)), part[from].name, (uint16_t)part[from].count};
         memcpy(other + 1 + 3 * i, head, sizeof head);
         memcpy(other + at, part[from].words, 2 * part[from].count);
+        for (size_t row = at; WRONG == AND_AS_OR && row < at + part[from].count; row += 5)
+            if (other[row] == GPC_KIND_AND)
+                other[row] = GPC_KIND_OR;
         at += part[from].count;
     }
     return other;
+}
+
+static unsigned number_at(const uint8_t *image, size_t at) { return image[at] + 256u * image[at + 1]; }
+
+static void put_at(uint8_t *image, size_t at, size_t n)
+{
+    image[at] = (uint8_t)n;
+    image[at + 1] = (uint8_t)(n >> 8);
+}
+
+/* The element and the key of a property row, ordered as such rows are. */
+static unsigned pair_at(const uint8_t *image, size_t at) { return number_at(image, at) << 16 | number_at(image, at + 2); }
+
+/* An image that the wrong library takes for an accepted one: each element has each of the least keys, and where it lacked one a value
+ * that nothing else has. So an equality with an absent side is false. */
+static const uint8_t *filled_image(const uint8_t *image, size_t *bytes)
+{
+    static uint8_t filled[1 << 16];
+    uint8_t report[GPC_REPORT_BYTES];
+    __real_gpc_read_image(image, *bytes, report, sizeof report);
+    if (report[0] != 0)
+        return image;
+    const unsigned keys = 4, elements = number_at(image, 2) / 2 + number_at(image, 6) / 6;
+    size_t from = number_at(image, 12), at = from, to = from;
+    memcpy(filled, image, from);
+    for (unsigned i = 0; i < elements * keys; i++) {
+        unsigned pair = (i / keys) << 16 | i % keys;
+        for (; at < *bytes && pair_at(image, at) < pair; at += 6, to += 6)
+            memcpy(filled + to, image + at, 6);
+        if (at < *bytes && pair_at(image, at) == pair)
+            continue;
+        put_at(filled, to, pair >> 16);
+        put_at(filled, to + 2, pair & 65535);
+        put_at(filled, to + 4, 1000 + i);
+        to += 6;
+    }
+    memcpy(filled + to, image + at, *bytes - at);
+    *bytes = to + *bytes - at;
+    put_at(filled, 14, *bytes - from);
+    return filled;
 }
 
 uint64_t __wrap_gpc_read_image(const uint8_t *image, size_t image_bytes, uint8_t *report, size_t report_bytes)
@@ -82,8 +127,10 @@ uint64_t __wrap_gpc_judge_record(const uint8_t *image, size_t image_bytes, const
                                  const uint16_t *record, size_t record_words, uint16_t *work, size_t work_words, uint8_t *report,
                                  size_t report_bytes)
 {
-    if (WRONG == PARTS_SWAPPED)
+    if (WRONG == PARTS_SWAPPED || WRONG == AND_AS_OR)
         query = other_query(query, query_words);
+    if (WRONG == ABSENT_AS_FALSE)
+        image = filled_image(image, &image_bytes);
     uint64_t result = __real_gpc_judge_record(image, image_bytes, query, query_words, record, record_words, work, work_words, report,
                                               report_bytes);
     if (result == 1 && report[0] == 0 && (WRONG == NO_TO_ALL || WRONG == YES_TO_ALL))
@@ -186,8 +233,10 @@ uint64_t __wrap_gpc_fill_page(const uint8_t *image, size_t image_bytes, const ui
         bookmark_words = 0;
     if (WRONG == FULL_PAGE_REFUSED && page_words > 0)
         page_words--;
-    if (WRONG == SHORTEST_AS_ANY || WRONG == PARTS_SWAPPED)
+    if (WRONG == SHORTEST_AS_ANY || WRONG == PARTS_SWAPPED || WRONG == AND_AS_OR)
         query = other_query(query, query_words);
+    if (WRONG == ABSENT_AS_FALSE)
+        image = filled_image(image, &image_bytes);
     int dropped = WRONG == SECOND_OF_LAST_DROPPED && drop_second(image, image_bytes, query, query_words, types);
     uint64_t result = __real_gpc_fill_page(image, image_bytes, query, query_words, bookmark, bookmark_words, page,
                                            dropped ? 0 : page_words, work, work_words, report, report_bytes);
