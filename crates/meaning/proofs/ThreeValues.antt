@@ -11,7 +11,7 @@ use Rattle.meaning.proofs.Opened.{opened}
 use Rattle.meaning.specs.Assignment.{Assignment, equality, holds, propertyOf}
 use Rattle.meaning.specs.Before.{MeaningBefore, Present, allPresent, bothEqual, heldBefore, isPresent, noNots, withoutNot}
 use Rattle.meaning.specs.Graph.{Graph, Walk}
-use Rattle.meaning.specs.Meaning.{Meaning}
+use Rattle.meaning.specs.Meaning.{AnswerSet, ConcatenationAnswer, Meaning, RepetitionAnswer, UnionAnswer}
 use Rattle.meaning.specs.Pattern.{Condition, Pattern, and, concatenation, conditioned, edge, equalsConstant, equalsProperty, neg, node, or, repetition, union}
 use Rattle.meaning.specs.Truth.{False, True, Truth, Unknown, conjunction, decided, disjunction, isTrue, negation}
 
@@ -117,62 +117,57 @@ Agrees G (concatenation a b) = Agrees G a × Agrees G b
 Agrees G (conditioned a θ) = Agrees G a × ((p : Walk) (μ : Assignment) → Meaning G a p μ → isTrue (holds G μ θ) ≡ heldBefore G μ θ)
 Agrees G (repetition a n m) = Agrees G a
 
-module _ (G : Graph) where
-  before→ : (π : Pattern) → Agrees G π → (p : Walk) (μ : Assignment) → Meaning G π p μ → MeaningBefore G π p μ
-  unfolding opened MeaningBefore
-  before→ (node x l) s p μ h = h
-  before→ (edge d x l) s p μ h = h
-  before→ (union a b) s p μ h = record { ν = h .ν; either = either (h .either) (λ k. inl (before→ a (s .0) p (h .ν) k)) (λ k. inr (before→ b (s .1) p (h .ν) k)); assignment-is = h .assignment-is }
-  before→ (concatenation a b) s p μ h = record {
-    p₁ = h .p₁;
-    p₂ = h .p₂;
-    μ₁ = h .μ₁;
-    μ₂ = h .μ₂;
-    first = before→ a (s .0) (h .p₁) (h .μ₁) (h .first);
-    second = before→ b (s .1) (h .p₂) (h .μ₂) (h .second);
-    concatenate = h .concatenate;
-    unify = h .unify;
-    path-is = h .path-is;
-    assignment-is = h .assignment-is;
-  }
-  before→ (conditioned a θ) s p μ h = record { answer = before→ a (s .0) p μ (h .answer); satisfied = sym (s .1 p μ (h .answer)) ∙ is-true← (holds G μ θ) (h .satisfies) }
-  before→ (repetition a n m) s p μ h = record {
-    factors = h .factors;
-    at-least = h .at-least;
-    at-most = h .at-most;
-    answers = all-map (λ f k. before→ a s (f .0) (f .1) k) (h .factors) (h .answers);
-    path-is = h .path-is;
-    assignment-is = h .assignment-is;
-  }
+-- answers of the parts, with those of other sets for them
+abbrev Within : AnswerSet → AnswerSet → Type 0
+Within A B = (p : Walk) (μ : Assignment) → A p μ → B p μ
 
-  before← : (π : Pattern) → Agrees G π → (p : Walk) (μ : Assignment) → MeaningBefore G π p μ → Meaning G π p μ
+union-within : {A A′ B B′ : AnswerSet} (π : Pattern) → Within A A′ → Within B B′ → Within (UnionAnswer A B π) (UnionAnswer A′ B′ π)
+union-within π f g p μ h = record { ν = h .ν; either = either (h .either) (λ k. inl (f p (h .ν) k)) (λ k. inr (g p (h .ν) k)); assignment-is = h .assignment-is }
+
+concatenation-within : {A A′ B B′ : AnswerSet} → Within A A′ → Within B B′ → Within (ConcatenationAnswer A B) (ConcatenationAnswer A′ B′)
+concatenation-within f g p μ h = record {
+  p₁ = h .p₁;
+  p₂ = h .p₂;
+  μ₁ = h .μ₁;
+  μ₂ = h .μ₂;
+  first = f (h .p₁) (h .μ₁) (h .first);
+  second = g (h .p₂) (h .μ₂) (h .second);
+  concatenate = h .concatenate;
+  unify = h .unify;
+  path-is = h .path-is;
+  assignment-is = h .assignment-is;
+}
+
+repetition-within : {A A′ : AnswerSet} (G : Graph) (π : Pattern) (n : ℕ) (m : Option ℕ) → Within A A′ → Within (RepetitionAnswer A G π n m) (RepetitionAnswer A′ G π n m)
+repetition-within G π n m f p μ h = record {
+  factors = h .factors;
+  at-least = h .at-least;
+  at-most = h .at-most;
+  answers = all-map (λ c k. f (c .0) (c .1) k) (h .factors) (h .answers);
+  path-is = h .path-is;
+  assignment-is = h .assignment-is;
+}
+
+module _ (G : Graph) where
+  before→ : (π : Pattern) → Agrees G π → Within (Meaning G π) (MeaningBefore G π)
   unfolding opened MeaningBefore
-  before← (node x l) s p μ h = h
-  before← (edge d x l) s p μ h = h
-  before← (union a b) s p μ h = record { ν = h .ν; either = either (h .either) (λ k. inl (before← a (s .0) p (h .ν) k)) (λ k. inr (before← b (s .1) p (h .ν) k)); assignment-is = h .assignment-is }
-  before← (concatenation a b) s p μ h = record {
-    p₁ = h .p₁;
-    p₂ = h .p₂;
-    μ₁ = h .μ₁;
-    μ₂ = h .μ₂;
-    first = before← a (s .0) (h .p₁) (h .μ₁) (h .first);
-    second = before← b (s .1) (h .p₂) (h .μ₂) (h .second);
-    concatenate = h .concatenate;
-    unify = h .unify;
-    path-is = h .path-is;
-    assignment-is = h .assignment-is;
-  }
-  before← (conditioned a θ) s p μ h =
+  before→ (node x l) s = λ p μ h. h
+  before→ (edge d x l) s = λ p μ h. h
+  before→ (union a b) s = union-within (union a b) (before→ a (s .0)) (before→ b (s .1))
+  before→ (concatenation a b) s = concatenation-within (before→ a (s .0)) (before→ b (s .1))
+  before→ (conditioned a θ) s = λ p μ h. record { answer = before→ a (s .0) p μ (h .answer); satisfied = sym (s .1 p μ (h .answer)) ∙ is-true← (holds G μ θ) (h .satisfies) }
+  before→ (repetition a n m) s = repetition-within G a n m (before→ a s)
+
+  before← : (π : Pattern) → Agrees G π → Within (MeaningBefore G π) (Meaning G π)
+  unfolding opened MeaningBefore
+  before← (node x l) s = λ p μ h. h
+  before← (edge d x l) s = λ p μ h. h
+  before← (union a b) s = union-within (union a b) (before← a (s .0)) (before← b (s .1))
+  before← (concatenation a b) s = concatenation-within (before← a (s .0)) (before← b (s .1))
+  before← (conditioned a θ) s = λ p μ h.
       let k : Meaning G a p μ = before← a (s .0) p μ (h .answer) in
       record { answer = k; satisfies = is-true→ (holds G μ θ) (s .1 p μ k ∙ h .satisfied) }
-  before← (repetition a n m) s p μ h = record {
-    factors = h .factors;
-    at-least = h .at-least;
-    at-most = h .at-most;
-    answers = all-map (λ f k. before← a s (f .0) (f .1) k) (h .factors) (h .answers);
-    path-is = h .path-is;
-    assignment-is = h .assignment-is;
-  }
+  before← (repetition a n m) s = repetition-within G a n m (before← a s)
 
   without-nots : (π : Pattern) → noNots π ≡ true → Agrees G π
   unfolding noNots
