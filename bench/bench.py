@@ -4,6 +4,7 @@
 """
 
 import datetime
+import re
 import signal
 import sqlite3
 import subprocess
@@ -11,6 +12,7 @@ import sys
 
 import cases
 import demands
+import flights
 import graphs
 import measure
 import patterns
@@ -22,18 +24,26 @@ LENGTHS = [10, 25, 50, 75, 100, 125, 150, 175]
 DOCUMENT = "docs/BENCH.md"
 
 
+def packaged(name):
+    """The version of a package of Debian, without Debian's own part."""
+    said = subprocess.run(["dpkg-query", "-W", "-f", "${Version}", name], capture_output=True, text=True).stdout
+    return re.split("[+-]", said)[0]
+
+
 def versions(postgres):
     import networkx
 
     rust = subprocess.run(["rustc", "--version"], capture_output=True, text=True).stdout.split()[1:2]
     server = subprocess.run([f"{postgres.programs}/postgres", "--version"], capture_output=True, text=True).stdout.split()[2:3]
-    return f"rustc {' '.join(rust)}, SQLite {sqlite3.sqlite_version}, PostgreSQL {' '.join(server)}, networkx {networkx.__version__}"
+    return (f"rustc {' '.join(rust)}, SQLite {sqlite3.sqlite_version}, PostgreSQL {' '.join(server)}, networkx {networkx.__version__}, "
+            f"igraph {packaged('libigraph-dev')}, graph-tool {packaged('python3-graph-tool')}")
 
 
 def run():
     postgres = PostgreSQL()
     try:
-        rows = measure.measure_all(cases.all_cases(), [rivals.Enumerator(), rivals.SQLite(), postgres, rivals.Networkx()])
+        others = [rivals.Enumerator(), rivals.SQLite(), postgres, rivals.Networkx(), rivals.Igraph(), rivals.GraphTool()]
+        rows = measure.measure_all(cases.all_cases(), others)
         stated = versions(postgres)
     finally:
         postgres.close()
@@ -44,16 +54,19 @@ def run():
 
 def report(rows, found, stated, shape):
     date = datetime.datetime.now(datetime.timezone.utc).strftime("%Y-%m-%d")
-    without = [f"{row.case.name}: {row.case.without}." for row in rows if row.case.without]
-    slow = demands.slow_cases(rows)
+    flown, others = ([row for row in rows if row.case.kind.startswith("flights") == is_flight] for is_flight in (True, False))
+    without = [f"{row.case.name}: {row.case.without}." for row in others if row.case.without]
+    slow, behind = demands.slow_cases(rows), tables.behind(others) + flights.behind(flown)
     return "\n\n".join([
         f"{date}, {measure.machine()}; {stated}. Best of {rivals.RUNS} runs, of one where a run takes over {rivals.LONG_RUN_SECONDS} s.",
-        shape(tables.main_table(rows)), *without,
-        "Pages:", shape(tables.page_table(rows)),
+        shape(tables.main_table(others)), *without,
+        f"Flights: whole listings, by the engine in pages of {cases.WHOLE:,} words and in pages of {cases.PAGE_WORDS:,}:", shape(flights.table(flown)),
+        "Pages:", shape(tables.page_table(others)),
         "Joins, and their parts each listed by itself:", shape(tables.join_table(rows)),
         "The line with a group, a page of the records of so many edges:", shape(tables.growth_table(found)),
         "Demands:", shape(demands.table(demands.all_demands(rows, found))),
         *(["A page of 20,000 words over 50 ms: " + "; ".join(slow) + "."] if slow else []),
+        *(["The engine is behind: " + "; ".join(behind) + "."] if behind else []),
     ])
 
 

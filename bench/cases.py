@@ -7,14 +7,15 @@ from functools import partial
 import graphs
 import patterns
 import queries
+import searches
 import walks
 
-TRAIL, SIMPLE, SHORTEST_TRAIL = 1, 2, 3
+TRAIL, SIMPLE, SHORTEST_TRAIL, SHORTEST_SIMPLE = range(1, 5)
 PAGE_WORDS = 20000
 WHOLE = 2000000  # a page with room for a whole listing
 SEED = 1  # of every random graph but the flights
-FLIGHTS_ANSWERS = range(1000, 10001)
-FLIGHTS_STEPS = 2000000
+FLIGHTS = range(1, 21)  # their seeds: the first twenty, whatever number of answers they have
+FLIGHTS_SECONDS = 3  # the limit of every program there
 PROCESSOR = 100  # the first serial number
 MOST_EDGES = 5  # of a path of the selective joins
 
@@ -36,9 +37,11 @@ class Case:
     parts: list
     query: object = None  # of a dialect: the same case in SQL
     walk: object = None  # of a graph: the same case with networkx
-    kind: str = ""  # what is asked of it: ambiguous, shortest, flights, join, selective, star, record
+    search: object = None  # of a graph: the same case with igraph and graph-tool
+    kind: str = ""  # what is asked of it: ambiguous, shortest, flights, flights in pages, join, selective, star, record
     page_words: int = PAGE_WORDS
     most_pages: int = 0  # of a listing too long to be read to its end
+    seconds: int = 0  # the limit of every program, the engine too; 0: as measure.py has it
     without: str = ""  # why it is not listed to its end
 
     def write(self, folder):
@@ -66,49 +69,38 @@ def one(name, graph, rows, restrictor, *others, **more):
     return Case(name, graph, [Part(rows, restrictor)], *others, **more)
 
 
-def flights_seeds(count):
-    """The first seeds whose number of answers lies in the range, counted in so many steps at most."""
-    found, seed = [], 0
-    while len(found) < count:
-        seed += 1
-        graph = graphs.flights(seed)
-        answers = walks.count_simple(graph, graph.holder(graphs.PLACE, graphs.FROM), graph.holder(graphs.PLACE, graphs.TO),
-                                     FLIGHTS_ANSWERS[-1], FLIGHTS_STEPS)
-        if answers in FLIGHTS_ANSWERS:
-            found.append((seed, graph))
-    return found
-
-
 def records():
     line, parted = graphs.fitting(SEED, 0), graphs.fitting(SEED, 5)
     return [
-        one("chains of maps", line, patterns.chains(), TRAIL, queries.chains, walks.chains),
-        one("chains that part and meet", parted, patterns.chains(), TRAIL, queries.chains, walks.chains),
+        one("chains of maps", line, patterns.chains(), TRAIL, queries.chains, walks.chains, searches.chains),
+        one("chains that part and meet", parted, patterns.chains(), TRAIL, queries.chains, walks.chains, searches.chains),
         one("processors of a map", line, patterns.carried(), TRAIL, queries.carried),
     ]
 
 
 def flights():
-    """Each listing in one page, as the queries give it in one answer; the last one in pages as well."""
-    make = partial(one, rows=patterns.between(), restrictor=SIMPLE)
+    """Each listing in large pages, as a query gives it in one answer; and in pages of the usual size."""
     cases = []
-    for seed, graph in flights_seeds(3):
-        cases.append(make(f"flights, seed {seed}", graph, query=queries.between, walk=walks.between, kind="flights", page_words=WHOLE))
-    return cases + [make(f"flights, seed {seed}, pages of {PAGE_WORDS:,}", graph)]
+    for seed in FLIGHTS:
+        make = partial(one, graph=graphs.flights(seed), rows=patterns.between(), restrictor=SIMPLE, seconds=FLIGHTS_SECONDS)
+        cases.append(make(f"flights, seed {seed}", query=queries.between, walk=walks.between, search=searches.between, kind="flights",
+                          page_words=WHOLE))
+        cases.append(make(f"flights, seed {seed}, in pages", kind="flights in pages"))
+    return cases
 
 
 def dense():
     graph, _ = graphs.random_graph(SEED, 12, 40)
     make = partial(one, graph=graph, rows=patterns.repeated(most=6), restrictor=TRAIL)
     smaller = [make(f"dense, pages of {words:,}", page_words=words) for words in (1000, 64)]
-    return [make("dense, trails of 1 to 6", query=partial(queries.trails, most=6))] + smaller
+    return [make("dense, trails of 1 to 6", query=partial(queries.trails, most=6), search=partial(searches.trails, most=6))] + smaller
 
 
 def lines():
     line = graphs.line(199)
     return [
-        one("line, every part", line, patterns.repeated(), TRAIL, queries.trails, walks.parts),
-        one("line, every part, a group", line, patterns.repeated(variable=1), TRAIL, queries.trails, walks.parts),
+        one("line, every part", line, patterns.repeated(), TRAIL, queries.trails, walks.parts, searches.parts),
+        one("line, every part, a group", line, patterns.repeated(variable=1), TRAIL, queries.trails, walks.parts, searches.parts),
         one("line, eight groups", line, patterns.in_a_row(8, True), TRAIL, most_pages=20,
              without="far too many answers to be listed by anyone: 20 pages of it"),
     ]
@@ -126,18 +118,21 @@ def ambiguous():
 
 
 def shortest():
+    """Of all pairs. Where edges have no direction, trails lead from a node to itself as well: of those no library knows, so one grid is
+    listed by simple paths too."""
+    make = partial(one, kind="shortest")
+    forward, any_way = patterns.repeated(), patterns.repeated(patterns.UNDIRECTED)
     cases = []
     for width in 6, 10:
-        for directed in 1, 0:
-            kind = patterns.FORWARD if directed else patterns.UNDIRECTED
-            name = f"grid {width} by {width}, {'directed' if directed else 'undirected'}"
-            cases.append(one(name, graphs.grid(width, directed), patterns.repeated(kind), SHORTEST_TRAIL, queries.shortest,
-                              kind="shortest"))
-    return cases
+        cases.append(make(f"grid {width} by {width}, directed", graphs.grid(width, 1), forward, SHORTEST_TRAIL, queries.shortest, walks.shortest,
+                          searches.shortest))
+        cases.append(make(f"grid {width} by {width}, undirected", graphs.grid(width, 0), any_way, SHORTEST_TRAIL, queries.shortest))
+    simple = make("grid 6 by 6, undirected, simple", graphs.grid(6, 0), any_way, SHORTEST_SIMPLE, walk=walks.shortest, search=searches.shortest)
+    return [*cases, simple]
 
 
 def parallel():
-    return [one("200 parallel edges", graphs.parallel(200), patterns.repeated(), TRAIL, queries.trails, walks.parallel)]
+    return [one("200 parallel edges", graphs.parallel(200), patterns.repeated(), TRAIL, queries.trails, walks.parallel, searches.parallel)]
 
 
 def record_joins():
@@ -145,10 +140,10 @@ def record_joins():
     graph = graphs.numbered(SEED, 5)
     chains = Part(patterns.chains_to(1), TRAIL, 9)
     return [
-        Case("processor and chain", graph, [Part(patterns.carried_by(PROCESSOR), TRAIL), chains], partial(queries.processor_and_chain, serial=PROCESSOR),
-             partial(walks.processor_and_chain, serial=PROCESSOR), kind="record"),
-        Case("all processors and chains", graph, [Part(patterns.carried(), TRAIL), chains], queries.processors_and_chains, walks.processors_and_chains,
-             kind="join"),
+        Case("processor and chain", graph, [Part(patterns.carried_by(PROCESSOR), TRAIL), chains],
+             *(partial(each.processor_and_chain, serial=PROCESSOR) for each in (queries, walks, searches)), kind="record"),
+        Case("all processors and chains", graph, [Part(patterns.carried(), TRAIL), chains], queries.processors_and_chains,
+             walks.processors_and_chains, searches.processors_and_chains, kind="join"),
     ]
 
 

@@ -1,6 +1,7 @@
 """Compares two builds of the library, before and after, and prints what each case takes with both, with the ratio.
 
-The programs on the archive before are in target/bench/before, those on the one after in target/bench.
+The programs on the archive before are in target/bench/before, those on the one after in target/bench. Listings are measured by the
+processor's time, so that other work on the machine does not decide.
 """
 
 import re
@@ -8,6 +9,7 @@ import statistics
 import subprocess
 import sys
 from dataclasses import dataclass
+from functools import partial
 
 import cases
 import measure
@@ -15,8 +17,8 @@ import tables
 
 BEFORE, AFTER = measure.FOLDER / "before", measure.FOLDER
 ROUNDS, LEAST_ROUNDS = 15, 3
-CASE_SECONDS = 6  # a case whose rounds would take longer has fewer of them
-LISTING_SECONDS = 2  # of a longer listing the pages that both list in this time are compared
+CASE_SECONDS = 3  # a case whose rounds would take longer has fewer of them
+LISTING_SECONDS = 1  # of a longer listing the pages that both list in this time are compared
 RUNS_SECONDS = 0.2  # a shorter listing is listed several times in a round
 MOST_RUNS = 100
 JUDGE_ROUNDS = 60  # of a hundredth of a second each
@@ -30,7 +32,7 @@ class Pair:
 
     def ratio(self):
         """None where a page was given up."""
-        is_given_up = max(self.before.worst, self.after.worst) >= measure.PAGE_SECONDS
+        is_given_up = max(self.before.worst, self.after.worst) >= measure.engine_limit(self.case)
         return None if is_given_up else self.after.seconds / self.before.seconds
 
 
@@ -52,20 +54,20 @@ def check_same(case, found):
 
 def compare(case):
     folder = measure.written(case)
-    first = [measure.engine(folder, case, runs=1, seconds=LISTING_SECONDS, programs=programs) for programs in (BEFORE, AFTER)]
+    engine = partial(measure.engine, folder, case, clock="processor")
+    first = [engine(runs=1, seconds=LISTING_SECONDS, programs=programs) for programs in (BEFORE, AFTER)]
     if Pair(case, *first).ratio() is None:
         return Pair(case, *first)
     pages, seconds = min(each.pages for each in first), max(each.seconds for each in first)
     runs = max(1, min(MOST_RUNS, int(RUNS_SECONDS / seconds)))
     rounds = max(LEAST_ROUNDS, min(ROUNDS, int(CASE_SECONDS / (2 * runs * seconds))))
-    before, after = in_turn(lambda programs: measure.engine(folder, case, pages, runs=runs, programs=programs), rounds)
+    before, after = in_turn(lambda programs: engine(pages, runs=runs, programs=programs), rounds)
     check_same(case, before + after)
     return Pair(case, *(min(each, key=lambda one: one.seconds) for each in (before, after)))
 
 
 def compare_all():
-    for case in cases.all_cases():
-        print(f"{case.name} ..", file=sys.stderr)
+    for case in measure.told(cases.all_cases()):
         yield compare(case)
 
 
@@ -101,7 +103,8 @@ def main():
     pairs = list(compare_all())
     ratios = [pair.ratio() for pair in pairs if pair.ratio()]
     print("\n\n".join([
-        f"{measure.machine()}. The best of {ROUNDS} rounds, of at least {LEAST_ROUNDS} where they take long; the two in turn.",
+        f"{measure.machine()}. The best of {ROUNDS} rounds, of at least {LEAST_ROUNDS} where they take long; the two in turn, "
+        "by the processor's time.",
         tables.text(listing_table(pairs)),
         f"Of all cases: geometric mean {tables.number(statistics.geometric_mean(ratios))}, least {tables.number(min(ratios))}, "
         f"greatest {tables.number(max(ratios))}.",

@@ -1,33 +1,26 @@
 /* Lists a case page by page and times gpc_fill_page alone.
  *
- *     engine IMAGE QUERY PAGE_WORDS MOST_PAGES SECONDS RUNS EDGES
+ *     engine IMAGE QUERY PAGE_WORDS MOST_PAGES SECONDS PAGE_SECONDS RUNS EDGES CLOCK
  *
  * Prints answers, words, pages, whether the listing came to its end, then in seconds the first page, the worst one and all of them.
  * Of several runs each page counts by its best. A run ends after so many pages or seconds (0: no bound on pages), and a run that took
- * over 5 s is the last. A page that takes over 60 s is given up: it counts as a page without answers. The listing begins with the
- * records whose first path has so many edges (0: with the first record).
+ * over 2 s is the last. A page that takes longer than a page may is given up: it counts as a page without answers. The listing begins
+ * with the records whose first path has so many edges (0: with the first record). The clock is wall or processor: the second does not
+ * count what else runs on the machine.
  */
 #include <inttypes.h>
 #include <signal.h>
 #include <stdio.h>
 #include <stdlib.h>
 #include <string.h>
-#include <time.h>
 #include <unistd.h>
 
-#include "record.h"
+#include "paging.h"
 
-enum { LONG_RUN_SECONDS = 5, PAGE_SECONDS = 60 };
+enum { LONG_RUN_SECONDS = 2 };
 
-struct listing {
-    struct bytes image;
-    struct words query;
-    uint16_t types[GPC_TYPE_WORDS];
-    struct words page;
-    struct words bookmark;
-    uint8_t report[GPC_REPORT_BYTES];
-    uint16_t work[GPC_WORK_WORDS];
-};
+static unsigned page_seconds;
+static clockid_t used_clock;
 
 /* What the runs found; best holds the best time of each page. */
 struct found {
@@ -37,37 +30,16 @@ struct found {
     double *best;
 };
 
-static double now(void)
-{
-    struct timespec t;
-    clock_gettime(CLOCK_MONOTONIC, &t);
-    return (double)t.tv_sec + 1e-9 * (double)t.tv_nsec;
-}
-
 /* One page, and how long it took. The alarm is on during the call alone, so that give_up finds the rest of the program at rest. */
 static double fill(struct listing *l)
 {
-    alarm(PAGE_SECONDS);
-    double before = now();
-    gpc_fill_page(l->image.at, l->image.count, l->query.at, l->query.count, l->bookmark.at, l->bookmark.count, l->page.at, l->page.count,
-                  l->work, GPC_WORK_WORDS, l->report, sizeof l->report);
-    double after = now();
+    alarm(page_seconds);
+    double before = seconds_by(used_clock);
+    fill_page(l);
+    double after = seconds_by(used_clock);
     alarm(0);
     stop_if_refused(l->report);
     return after - before;
-}
-
-/* The last record on the page, found by the types. */
-static void keep_bookmark(struct listing *l)
-{
-    const uint16_t *record = l->page.at;
-    size_t words = 0;
-    for (uint64_t i = reported(l->report, 2); i > 0; i--) {
-        record += words;
-        words = record_words(l->types, l->query.at[0], record);
-    }
-    resize(&l->bookmark, words);
-    memcpy(l->bookmark.at, record, words * sizeof *record);
 }
 
 /* Room for the time of one page more, made before it is filled: give_up may not ask for memory. */
@@ -95,6 +67,7 @@ static double run(struct listing *l, struct found *f, size_t most_pages, double 
     double total = 0;
     size_t page = 0;
     f->answers = f->words = 0;
+    f->done = 0;
     resize(&l->bookmark, edges > 0);
     l->bookmark.at[0] = edges;
     do {
@@ -102,9 +75,9 @@ static double run(struct listing *l, struct found *f, size_t most_pages, double 
         double t = fill(l);
         note_time(f, page++, t);
         total += t;
-        f->answers += reported(l->report, 2);
-        f->words += reported(l->report, 3);
-        f->done = reported(l->report, 4) != 0;
+        f->answers += reported(l->report, GPC_REPORT_RECORDS);
+        f->words += reported(l->report, GPC_REPORT_WORDS);
+        f->done = reported(l->report, GPC_REPORT_DONE) != 0;
         keep_bookmark(l);
     } while (!f->done && page != most_pages && total < seconds);
     return total;
@@ -127,7 +100,7 @@ static struct found f;
 static void give_up(int sig)
 {
     (void)sig;
-    note_time(&f, f.pages, PAGE_SECONDS);
+    note_time(&f, f.pages, page_seconds);
     print(&f);
     fflush(stdout);
     _Exit(0);
@@ -135,18 +108,19 @@ static void give_up(int sig)
 
 int main(int argc, char **argv)
 {
-    if (argc != 8) {
-        fputs("usage: engine IMAGE QUERY PAGE_WORDS MOST_PAGES SECONDS RUNS EDGES\n", stderr);
+    if (argc != 10) {
+        fputs("usage: engine IMAGE QUERY PAGE_WORDS MOST_PAGES SECONDS PAGE_SECONDS RUNS EDGES CLOCK\n", stderr);
         return 2;
     }
     l.image = read_bytes(argv[1]);
     l.query = read_words(argv[2]);
     resize(&l.page, strtoull(argv[3], NULL, 10));
-    gpc_check_query(l.query.at, l.query.count, l.types, GPC_TYPE_WORDS, l.report, sizeof l.report);
-    stop_if_refused(l.report);
+    check_query(&l);
     signal(SIGALRM, give_up);
-    for (int runs = atoi(argv[6]); runs > 0; runs--)
-        if (run(&l, &f, strtoull(argv[4], NULL, 10), strtod(argv[5], NULL), (uint16_t)atoi(argv[7])) > LONG_RUN_SECONDS)
+    page_seconds = (unsigned)atoi(argv[6]);
+    used_clock = strcmp(argv[9], "processor") == 0 ? CLOCK_PROCESS_CPUTIME_ID : CLOCK_MONOTONIC;
+    for (int runs = atoi(argv[7]); runs > 0; runs--)
+        if (run(&l, &f, strtoull(argv[4], NULL, 10), strtod(argv[5], NULL), (uint16_t)atoi(argv[8])) > LONG_RUN_SECONDS)
             break;
     print(&f);
     free(l.image.at);

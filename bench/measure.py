@@ -1,18 +1,18 @@
 """Measures every case with the engine and with whatever else can express it."""
 
+import math
 import os
 import re
 import subprocess
 import sys
+import time
 from dataclasses import dataclass, field
 from pathlib import Path
 
 import rivals
 
-SECONDS = 10  # the limit of another program on a case, where the engine takes no longer than half of it
-FLIGHTS_SECONDS = 60  # there a number is wanted, not a bound
-ENGINE_SECONDS = 20
-PAGE_SECONDS = 60  # engine.c gives up a page after these
+SECONDS = 4  # the limit of another program on a case, where the engine takes less
+ENGINE_SECONDS = 20  # of a listing, and of a page
 GROWTH_RUNS = 20  # pages of a few milliseconds each, which are compared with one another
 GROWTH_ROUNDS = 3  # all lengths in turn, so that what disturbs one of them for a while does not decide
 FOLDER = Path("target/bench")
@@ -20,6 +20,7 @@ FOLDER = Path("target/bench")
 
 @dataclass
 class Engine:
+    """What the engine listed; a page that was given up counts with the time that it had."""
     answers: int
     words: int
     pages: int
@@ -50,9 +51,13 @@ def written(case):
     return folder
 
 
-def engine(folder, case, most_pages=0, edges=0, runs=rivals.RUNS, seconds=ENGINE_SECONDS, programs=FOLDER):
+def engine_limit(case):
+    return case.seconds or ENGINE_SECONDS
+
+
+def engine(folder, case, most_pages=0, edges=0, runs=rivals.RUNS, seconds=0, programs=FOLDER, clock="wall"):
     command = [programs / "engine", folder / "image", folder / "query", case.page_words, most_pages or case.most_pages,
-               seconds, runs, edges]
+               seconds or engine_limit(case), engine_limit(case), runs, edges, clock]
     run = subprocess.run([str(part) for part in command], capture_output=True, text=True)
     if run.returncode:
         raise SystemExit(f"{case.name}: the engine ended with {run.returncode} {run.stdout} {run.stderr}")
@@ -61,41 +66,59 @@ def engine(folder, case, most_pages=0, edges=0, runs=rivals.RUNS, seconds=ENGINE
 
 
 def agree(row):
-    """Every program that came to the end counts the same answers."""
+    """Every program that came to the end counts the same answers, and the enumerator the same words."""
     counts = {name: result.answers for name, result in row.others.items() if not result.over}
     if row.engine.done:
         counts["engine"] = row.engine.answers
-        words = row.others["enumerator"].words
-        if words not in (0, row.engine.words):
-            raise SystemExit(f"{row.case.name}: {row.engine.words} words, the enumerator has {words}")
+        for name, result in row.others.items():
+            if result.words not in (0, row.engine.words):
+                raise SystemExit(f"{row.case.name}: {row.engine.words} words, the {name} has {result.words}")
     if len(set(counts.values())) > 1:
         raise SystemExit(f"{row.case.name}: the answers differ: {counts}")
+
+
+def worst_first_page(folder, case):
+    """The worst of the first pages of each length, as far as they go in the time that a listing has."""
+    worst = spent = 0
+    for edges in range(1, case.graph.nodes):
+        page = engine(folder, case, 1, edges, 1)
+        worst, spent = max(worst, page.worst), spent + page.seconds
+        if page.done or spent > engine_limit(case):
+            break
+    return worst
 
 
 def measure(case, programs, known):
     folder = written(case)
     row = Row(case, engine(folder, case))
+    if case.kind == "flights in pages" and not row.engine.done:  # its long paths are looked at too
+        row.engine.worst = max(row.engine.worst, worst_first_page(folder, case))
     if len(case.parts) > 1:
         row.alone = sum(engine(written(part), part).seconds for part in case.alone())
-    least = max(SECONDS, 2 * row.engine.seconds)  # so that a program that is given up is known to be slower
+    # a program that is given up is then known to be slower than an engine that came to the end
+    limit = case.seconds or max(SECONDS, math.ceil(row.engine.seconds) if row.engine.done else 0)
     for program in programs:
         if not program.expresses(case):
             continue
         key = program.name, case.listing()
         if key not in known:
-            long = case.kind == "flights" and program.name != "enumerator"
-            known[key] = rivals.best(lambda: program.run(case, folder, max(least, FLIGHTS_SECONDS) if long else least))
+            known[key] = rivals.best(lambda: program.run(case, folder, limit), program.runs)
         row.others[program.name] = known[key]
     agree(row)
     return row
 
 
+def told(cases):
+    """The cases, each told when it begins."""
+    start = time.monotonic()
+    for number, case in enumerate(cases, 1):
+        print(f"{number} of {len(cases)}, after {time.monotonic() - start:.0f} s: {case.name} ..", file=sys.stderr)
+        yield case
+
+
 def measure_all(cases, programs):
-    rows, known = [], {}
-    for case in cases:
-        print(f"{case.name} ..", file=sys.stderr)
-        rows.append(measure(case, programs, known))
-    return rows
+    known = {}
+    return [measure(case, programs, known) for case in told(cases)]
 
 
 def growth(case, lengths):

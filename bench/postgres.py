@@ -8,13 +8,13 @@ import subprocess
 import tempfile
 
 import queries
-from rivals import Result, schema
+from rivals import Program, Result, schema
 
 # Nothing is kept, so nothing need reach the disk; rows in memory; jit off, since compiling takes longer than these queries.
 SETTINGS = "-c listen_addresses='' -c fsync=off -c jit=off -c work_mem=512MB -c shared_buffers=256MB -c temp_file_limit=4GB"
 
 
-class PostgreSQL:
+class PostgreSQL(Program):
     name = "PostgreSQL"
 
     def __init__(self):

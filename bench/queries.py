@@ -55,13 +55,15 @@ def shortest(sql):
 
 
 def between(sql):
-    """Walks on from the goal are left off, since they can never come back to it."""
-    return f"""WITH RECURSIVE path(last, nodes) AS (
+    """Walks to nodes from which no walk leads to the goal are left off, and walks on from the goal, since they can never come back to it."""
+    goal = f"SELECT element FROM property WHERE key = {PLACE} AND value = {TO}"
+    return f"""WITH RECURSIVE back(node) AS ({goal} UNION SELECT a FROM back JOIN step ON b = node),
+        path(last, nodes) AS (
         SELECT element, {sql.of("element")} FROM property WHERE key = {PLACE} AND value = {FROM}
         UNION ALL
         SELECT b, {sql.added("nodes", "b")} FROM path JOIN step ON a = last
-        WHERE {sql.lacks("nodes", "b")} AND last <> (SELECT element FROM property WHERE key = {PLACE} AND value = {TO}))
-        SELECT count(*) FROM path JOIN property ON element = last WHERE key = {PLACE} AND value = {TO}"""
+        WHERE {sql.lacks("nodes", "b")} AND last <> ({goal}) AND b IN (SELECT node FROM back))
+        SELECT count(*) FROM path WHERE last = ({goal})"""
 
 
 def chains(sql):

@@ -1,16 +1,17 @@
-"""The other programs, each with a limit of time: the enumerator, SQLite, PostgreSQL (postgres.py) and networkx."""
+"""The other programs, each with a limit of time: the enumerator, SQLite, PostgreSQL (postgres.py), networkx, igraph and graph-tool."""
 
 import resource
 import signal
 import sqlite3
 import subprocess
+import sys
 import time
 from dataclasses import dataclass
 
 import queries
 
 RUNS = 3
-LONG_RUN_SECONDS = 5  # a run over this is not repeated
+LONG_RUN_SECONDS = 2  # a run over this is not repeated
 MEMORY = 4 << 30
 
 
@@ -26,10 +27,14 @@ class Over(Exception):
     pass
 
 
-def best(run):
+class Program:
+    runs = RUNS
+
+
+def best(run, runs=RUNS):
     """The best of several runs of something that gives a Result."""
     found = None
-    for _ in range(RUNS):
+    for _ in range(runs):
         result = run()
         if found is None or result.seconds < found.seconds:
             found = result
@@ -52,18 +57,22 @@ def timed(count):
     return Result(time.monotonic() - start, answers)
 
 
-class Enumerator:
+def in_process(*command):
+    """Runs a program that may use so much memory."""
+    return subprocess.run([str(word) for word in command], capture_output=True, text=True,
+                          preexec_fn=lambda: resource.setrlimit(resource.RLIMIT_AS, (MEMORY, MEMORY)))
+
+
+class Enumerator(Program):
     name = "enumerator"
     program = "tests/enumerator/target/release/enumerator"
 
     def expresses(self, case):
-        return True
+        return case.kind not in ("flights", "flights in pages")  # it walks from every node, and comes to no end there
 
     def run(self, case, folder, limit):
-        command = [self.program, "time", folder / "image", folder / "query", str(limit)]
         start = time.monotonic()
-        run = subprocess.run(command, capture_output=True, text=True,
-                             preexec_fn=lambda: resource.setrlimit(resource.RLIMIT_AS, (MEMORY, MEMORY)))
+        run = in_process(self.program, "time", folder / "image", folder / "query", limit)
         if run.stdout.startswith("over") or "memory allocation" in run.stderr:
             return Result(time.monotonic() - start, over=True)
         if run.returncode:
@@ -72,7 +81,7 @@ class Enumerator:
         return Result(float(seconds), int(answers), int(words))
 
 
-class SQLite:
+class SQLite(Program):
     name = "SQLite"
 
     def expresses(self, case):
@@ -90,7 +99,7 @@ class SQLite:
         return result
 
 
-class Networkx:
+class Networkx(Program):
     name = "networkx"
 
     def expresses(self, case):
@@ -108,6 +117,42 @@ class Networkx:
 
 def stop(*_):
     raise Over
+
+
+class Library(Program):
+    """A library of graph algorithms: a program that reads a search and lists its paths."""
+
+    def expresses(self, case):
+        return case.search is not None
+
+    def run(self, case, folder, limit):
+        search = self.takes(case.search(case.graph))
+        (folder / self.name).write_text(search.text())
+        start = time.monotonic()
+        run = in_process(*self.command, folder / self.name, limit)
+        if run.stdout.startswith("over") or run.returncode == -signal.SIGALRM or "MemoryError" in run.stderr:
+            return Result(time.monotonic() - start, over=True)
+        if run.returncode:
+            raise SystemExit(f"{case.name}: {self.name} ended with {run.returncode} {run.stderr}")
+        answers, seconds = run.stdout.split()
+        return Result(float(seconds), int(answers) + search.besides)
+
+
+class Igraph(Library):
+    name = "igraph"
+    command = ["target/bench/igraph_paths"]
+
+    def takes(self, search):
+        return search.parted()
+
+
+class GraphTool(Library):
+    name = "graph-tool"
+    runs = 1  # the program makes its own: it takes long to start
+    command = [sys.executable, "-W", "ignore", "bench/graph_tool_paths.py"]
+
+    def takes(self, search):
+        return search
 
 
 def schema(graph):

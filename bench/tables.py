@@ -2,7 +2,7 @@
 
 import math
 
-OTHERS = ["enumerator", "SQLite", "PostgreSQL", "networkx"]
+OTHERS = ["enumerator", "SQLite", "PostgreSQL", "networkx", "igraph", "graph-tool"]
 
 
 def number(value):
@@ -35,14 +35,12 @@ def ratio(row, name):
 
 
 def cells(row, name):
-    """Time a line, ratio, times faster or slower."""
+    """Time a line, times faster or slower."""
     other, found = row.others.get(name), ratio(row, name)
     if other is None:
-        return ["-", "-", "-"]
+        return ["-", "-"]
     spent = f"over {other.seconds:.0f} s" if other.over else number(1e6 * other.seconds / max(other.answers, 1))
-    if found is None:
-        return [spent, "-", "-"]
-    return [spent, (">" if found[1] else "") + number(found[0]), times(*found)]
+    return [spent, times(*found) if found else "-"]
 
 
 def answers(engine):
@@ -52,12 +50,22 @@ def answers(engine):
 def main_table(rows):
     head = ["case", "answers", "words", "engine us a line"]
     for name in OTHERS:
-        head += [name + " us a line", "ratio", "engine is"]
+        head += [name + " us a line", "engine is"]
     body = []
     for row in rows:
         line = [row.case.name, answers(row.engine), f"{row.engine.words:,}", number(1e6 * per_line(row))]
         body.append(line + [cell for name in OTHERS for cell in cells(row, name)])
     return [head] + body
+
+
+def behind(rows):
+    """The cases in which another program takes less time a line, with those programs."""
+    found = []
+    for row in rows:
+        faster = [f"{name} {times(*compared)}".replace("x slower", " times") for name in OTHERS if (compared := ratio(row, name)) and compared[0] < 1]
+        if faster:
+            found.append(f"{row.case.name} ({', '.join(faster)})")
+    return found
 
 
 def first_page(row):
