@@ -1,6 +1,7 @@
 # make test: every test, ending with one line 'N passed, M failed'.
-# make bench: listings against an enumerator in Rust, SQLite, PostgreSQL and networkx, and the judge's cost on ambiguous patterns; or, with
-#   BENCH_BEFORE=ARCHIVE, an archive of an earlier state against the present one.
+# make bench: listings against an enumerator in Rust, SQLite, PostgreSQL, networkx, igraph and graph-tool, and the judge's cost on ambiguous
+#   patterns; or, with BENCH_BEFORE=ARCHIVE, an archive of an earlier state against the present one.
+# make hunt SEED=...: pages over 100 ms on random graphs and patterns, their inputs left in target/hunt.
 # make fuzz: the exported functions on made-up inputs, for FUZZ_SECONDS (60).
 # make run: two listings of a sample record, the chains of maps that lead to the present one, and the processors with the chains of
 #   their maps; each in numbers, then for a person.
@@ -11,7 +12,7 @@
 PREFIX = /usr/local
 to = $(DESTDIR)$(abspath $(PREFIX))
 
-.PHONY: test run bench fuzz lib install examples
+.PHONY: test run bench hunt fuzz lib install examples
 
 test:
 	@bash tests/run
@@ -21,6 +22,9 @@ run:
 
 bench:
 	@bash bench/run
+
+hunt:
+	@bash bench/hunt --seed $(or $(SEED),1)
 
 lib:
 	@bash tests/c/archive
