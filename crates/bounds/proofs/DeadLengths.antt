@@ -1,15 +1,17 @@
 -- Lengths that no answer has are dead.
-use mathlib.Core.Path.{_≡_, sym}
+use mathlib.Core.Path.{_∙_, _≡_, ap, sym}
 use mathlib.Core.List.{List, [], _++_, _∷_}
 use mathlib.Core.Bool.{false}
 use mathlib.Core.Option.{none}
 use Prim.Native.Nat.{_-_, _/_, ℕ}
 use native.Mathlib.Omega.{arith}
 use lib.ListN.{length}
+use Rattle.bits.specs.Sets.{setOf}
 use Rattle.compiled.specs.Parts.{patternIn, tableIn}
 use Rattle.plan.specs.Ready.{root}
 use Rattle.compiled.proofs.Graphs.{valid}
 use Rattle.compiled.specs.Sound.{Lawful}
+use Rattle.meaning.proofs.Logic.{no-true}
 use Rattle.meaning.specs.Assignment.{Assignment}
 use Rattle.meaning.specs.Basics.{eight}
 use Rattle.meaning.specs.Graph.{Walk, len}
@@ -23,8 +25,8 @@ use Rattle.search.proofs.Beginnings.{head-is}
 use Rattle.search.proofs.Opened.{search-opened}
 use Rattle.search.specs.Classes.{Dead}
 use Rattle.table.proofs.Roots.{root-accepted, root-pattern}
-use Rattle.bounds.specs.Lengths.{GreatestLength, LeastLength}
-use Rattle.bounds.specs.Rows.{Fewest, Most}
+use Rattle.bounds.specs.Lengths.{OnlyLengths}
+use Rattle.bounds.specs.Rows.{Possible}
 
 module _ (plan : List ℕ) (ok : patternFault (tableIn plan) ≡ none) where
   -- no match of the root row has the length
@@ -33,14 +35,7 @@ module _ (plan : List ℕ) (ok : patternFault (tableIn plan) ≡ none) where
   length-dead graph sound n h = answer-dead (graphIn graph) (valid graph sound) (patternIn plan) (root-accepted (tableIn plan) ok .sound) (record { base = baseIn plan; shortest = false }) (n ∷ []) (λ p μ a k.
       h p μ (a .base-answer .means) (sym (head-is n (len p) [] (places p ++ variableWords eight μ) k)))
 
-  pub greatest-is : (k r : ℕ) → k ≡ length (tableIn plan) / 5 → Most (tableIn plan) (k - 1) r → GreatestLength plan r
-  greatest-is k r q m₀ = let m : Most (tableIn plan) (root (tableIn plan)) r = rw q at m₀ in record {
-    small = m .small;
-    dead = λ graph sound l n h. length-dead graph sound n (λ p μ a e. omega (arith, m .is l (graphIn graph) p μ (rw (root-pattern (tableIn plan) ok) a)));
-  }
-
-  pub least-is : (k r : ℕ) → k ≡ length (tableIn plan) / 5 → Fewest (tableIn plan) (k - 1) r → LeastLength plan r
-  least-is k r q m₀ = let m : Fewest (tableIn plan) (root (tableIn plan)) r = rw q at m₀ in record {
-    small = m .small;
-    dead = λ graph sound n h. length-dead graph sound n (λ p μ a e. omega (arith, m .is (graphIn graph) p μ (rw (root-pattern (tableIn plan) ok) a)));
+  pub only-these : (k : ℕ) (w : List ℕ) → k ≡ length (tableIn plan) / 5 → Possible (tableIn plan) (k - 1) w → OnlyLengths plan w
+  only-these k w q m₀ = let m : Possible (tableIn plan) (root (tableIn plan)) w = rw q at m₀ in record {
+    dead = λ graph sound n l h. length-dead graph sound n (λ p μ a e. no-true (sym (m .is (graphIn graph) p μ (rw (root-pattern (tableIn plan) ok) a) (omega arith)) ∙ (ap (setOf w) e ∙ h)));
   }

@@ -1,2 +1,4 @@
 pub mod RowLengths
+pub mod SumWays
+pub mod PossibleWays
 pub mod DeadLengths

@@ -46,7 +46,7 @@ module _ (G : Graph) (π : Pattern) (a : ℕ) where
   product-least h fs p m pr = product-between G a none fs p (all-map (λ f k. (h (f .0) (f .1) k, tt)) fs m) pr .0
 
 -- no more than s factors, where s is a bound
-few-factors : (c s : ℕ) → s < 65535 → AtMost c (unless 65535 s) → c ≤ s
+pub few-factors : (c s : ℕ) → s < 65535 → AtMost c (unless 65535 s) → c ≤ s
 unfolding unless
 few-factors c s l h = go (eqb s 65535) (ne-eqb s 65535 (λ e. omega arith)) h
   where
@@ -69,12 +69,12 @@ module _ (pattern : List ℕ) (row : ℕ) (r : Row) (d : Reads pattern row r) (s
   fewest-node : (x l : Option ℕ) → patternAt pattern row ≡ node x l → Fewest pattern row 0
   fewest-node x l e = fewest-of (node x l) e 0 (omega arith) (λ G p μ m. omega arith)
 
-  low-node : r .kind < 2 → (x : Option ℕ) × (l : Option ℕ) × (patternAt pattern row ≡ node x l)
+  pub low-node : r .kind < 2 → (x : Option ℕ) × (l : Option ℕ) × (patternAt pattern row ≡ node x l)
   low-node h = by-eqb (r .kind) 0
       (λ e. (none, none, item-zero pattern row r d (st .formed) (st .room) e))
       (λ n. (unless 0 (r .p), unless 0 (r .q), shown pattern row _ (item-node pattern row r d (st .formed) (st .room) (omega arith))))
 
-  high-node : 9 ≤ r .kind → patternAt pattern row ≡ node none none
+  pub high-node : 9 ≤ r .kind → patternAt pattern row ≡ node none none
   high-node h = item-other pattern row r d (st .formed) (st .room) h
 
   pub most-edge : 2 ≤ r .kind → r .kind < 5 → Most pattern row 1

@@ -1,3 +1,4 @@
 pub mod Numbers
+pub mod Sums
 pub mod Rows
 pub mod Lengths

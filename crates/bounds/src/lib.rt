@@ -1,10 +1,11 @@
-// The least and the greatest number of edges of a match, by the table alone: no answer has fewer or more.
+// The numbers of edges of a match, by the table alone: the least and the greatest, and those that it can have.
 mod fewest;
 mod greatest;
 mod lengths;
 mod numbers;
+mod row_lengths;
+mod sums;
 
 pub use fewest::least;
 pub use greatest::most;
-pub use lengths::greatest_length;
-pub use lengths::least_length;
+pub use lengths::lengths_of;

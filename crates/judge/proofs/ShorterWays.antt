@@ -6,13 +6,15 @@ use Prim.Native.Nat.{ℕ, _+_, _<_, _≤_}
 use native.Mathlib.Omega.{arith}
 use Rattle.compiled.specs.Parts.{patternIn}
 use Rattle.compiled.specs.Sound.{Sound}
-use Rattle.bounds.specs.Lengths.{LeastLength}
+use Rattle.bits.proofs.Cases.{by-ltb}
+use Rattle.bits.specs.Sets.{Least, setOf}
+use Rattle.bounds.specs.Lengths.{OnlyLengths}
 use Rattle.walk.proofs.RecordEnds.{length-joins}
 use Rattle.meaning.proofs.Logic.{no-false, no-true}
 use Rattle.compiled.specs.Words.{graphIn}
 use Rattle.promises.specs.Goals.{baseIn}
 use Rattle.promises.specs.Walked.{JoinsIs}
-use Rattle.search.proofs.Joined.{none-below-next}
+use Rattle.search.proofs.Joined.{none-below-0, none-below-next}
 use Rattle.search.specs.Joined.{NoneBelow}
 use Rattle.judge.specs.Judging.{NoneShorter}
 
@@ -21,12 +23,15 @@ module _ (graph plan : List ℕ) (n u v : ℕ) where
   pub record NoneYet (m : ℕ) : Type 0 where
     pub below : NoneBelow (graphIn graph) (baseIn plan) (patternIn plan) m u v
 
-  -- no match has fewer than the first
-  pub none-first : (m : ℕ) → Sound graph plan → LeastLength plan m → NoneYet m
-  none-first m h l = record { below = λ k i j. length-joins graph plan h k u (l .dead graph (h .lawful) k i) v j }
+  -- no match has a length before the next
+  jump : (w : List ℕ) (m k : ℕ) → Sound graph plan → OnlyLengths plan w → Least (setOf w) 256 m k → NoneBelow (graphIn graph) (baseIn plan) (patternIn plan) m u v → NoneYet k
+  jump w m k h o l p = record { below = λ i a j. by-ltb i m (λ b. p i b j) (λ b. length-joins graph plan h i u (o .dead graph (h .lawful) i (omega (arith, l .within)) (l .before i b a)) v j) }
 
-  pub none-more : (m : ℕ) (r : Bool) → NoneYet m → JoinsIs graph plan m u v r → r ≡ false → NoneYet (m + 1)
-  none-more m r p j e = record { below = none-below-next (graphIn graph) (baseIn plan) (patternIn plan) u v m (p .below) (j .no-is e) }
+  pub none-first : (w : List ℕ) (k : ℕ) → Sound graph plan → OnlyLengths plan w → Least (setOf w) 256 0 k → NoneYet k
+  none-first w k h o l = jump w 0 k h o l (none-below-0 (graphIn graph) (baseIn plan) (patternIn plan) u v)
+
+  pub none-more : (w : List ℕ) (m k : ℕ) (r : Bool) → Sound graph plan → OnlyLengths plan w → NoneYet m → JoinsIs graph plan m u v r → r ≡ false → Least (setOf w) 256 (m + 1) k → NoneYet k
+  none-more w m k r h o p j e l = jump w (m + 1) k h o l (none-below-next (graphIn graph) (baseIn plan) (patternIn plan) u v m (p .below) (j .no-is e))
 
   pub none-hit : (m : ℕ) (r : Bool) → m < n → JoinsIs graph plan m u v r → r ≡ true → NoneShorter graph plan n u v false
   none-hit m r l j e = record { yes-is = λ q. no-false q; no-is = λ q. (m, l, j .yes-is e) }

@@ -2,23 +2,29 @@
 use mathlib.Core.Path.{_≡_}
 use Prim.Native.Nat.{_-_}
 use lib.ListN.{length}
+use Rattle.judge.proofs.ShorterWays.{NoneYet, none-all, none-first, none-hit, none-more}
 use native.Mathlib.Omega.{arith}
 use borrow.Author.Needs.{needs}
-use Rattle.judge.proofs.ShorterWays.{NoneYet, none-all, none-first, none-hit, none-more}
 use Rattle.judge.proofs.shorter.none_shorter.Statement.{statement}
 use Rattle.judge.proofs.shorter.none_shorter.Tie as tie
 
 abbrev Inv-loop : tie.InvT-loop
-Inv-loop graph plan fit₀ work₀ n u v m₀ fit work m = NoneYet graph plan n u v m × (length fit ≡ length fit₀) × (length work ≡ length work₀)
+Inv-loop graph plan fit₀ work₀ n u v lengths m₀ fit work m = NoneYet graph plan n u v m × (length fit ≡ length fit₀) × (length work ≡ length work₀)
 
 abbrev μ-loop : tie.MeasureT-loop
-μ-loop graph plan fit₀ work₀ n u v m₀ fit work m = n - m
+μ-loop graph plan fit₀ work₀ n u v lengths m₀ fit work m = n - m
 
-least-length-requires : tie.Need-least-length-requires Inv-loop μ-loop
-least-length-requires c κs = search needs
+lengths-of-requires : tie.Need-lengths-of-requires Inv-loop μ-loop
+lengths-of-requires c κs = search needs
+
+least-requires : tie.Need-least-requires Inv-loop μ-loop
+least-requires c κs = search needs
 
 loop-holds : tie.Need-loop-holds Inv-loop μ-loop
 loop-holds c = search (none-first, arith)
+
+add-next : tie.Need-add-next Inv-loop μ-loop
+add-next c = search needs
 
 joins-requires : tie.Need-joins-requires Inv-loop μ-loop
 joins-requires c κs = search needs
@@ -32,8 +38,8 @@ same-length-2 c = search needs
 returns : tie.Need-returns Inv-loop μ-loop
 returns c = search (none-hit, arith)
 
-add-m : tie.Need-add-m Inv-loop μ-loop
-add-m c = search needs
+least-requires-2 : tie.Need-least-requires-2 Inv-loop μ-loop
+least-requires-2 c κs = search needs
 
 loop-less : tie.Need-loop-less Inv-loop μ-loop
 loop-less c = search needs
@@ -56,13 +62,15 @@ none-shorter-spec =
     (tie.spec
     Inv-loop
     μ-loop
-    least-length-requires
+    lengths-of-requires
+    least-requires
     loop-holds
+    add-next
     joins-requires
     same-length
     same-length-2
     returns
-    add-m
+    least-requires-2
     loop-less
     loop-again
     same-length-3
