@@ -11,8 +11,8 @@ ghost use Rattle.bounds.specs.Rows.{Possible};
 ghost use Rattle.bounds.specs.Sums.{Repeated};
 ghost use Rattle.compiled.specs.Parts.{Tabled, tableIn};
 
-// Those of low up to high matches; high: 65535 is no bound. Of 256 matches more than low none is either: the sums of so many that have
-// an edge fall out.
+// Those of low up to high matches; high: 65535 is no bound, and neither is one that allows 256 matches more than low, since the sums of so
+// many that have an edge fall out.
 fn repeated(s: Set, low: usize, high: usize) -> Set
     ensures { λ r. ⌜ Repeated (setOf (s .w)) low high (setOf (r .w)) ⌝ }
 {
