@@ -1,4 +1,5 @@
 pub mod RowLengths
 pub mod SumWays
 pub mod PossibleWays
+pub mod RootLengths
 pub mod DeadLengths

@@ -8,4 +8,6 @@ mod sums;
 
 pub use fewest::least;
 pub use greatest::most;
+pub use lengths::fill_lengths;
+pub use lengths::kept_lengths;
 pub use lengths::lengths_of;

@@ -9,9 +9,11 @@ use lib.Dec.{eqb}
 use lib.ListN.{drop, getD, length, length-append, length-drop, length-set, set, take}
 use lib.Seq.{getD-set-other, getD-set-same, length-take-le}
 use borrow.Author.Tests.{eqb-false, eqb-true}
-use Rattle.calls.specs.Called.{NamesOf, PlanOf, PlansOf, TypesOf, isAlone}
+use Rattle.bounds.specs.Lengths.{LengthsFilled}
+use Rattle.calls.specs.Called.{Completed, NamesOf, PlanOf, PlansOf, TypesOf, isAlone}
 use Rattle.compiled.specs.Copies.{PartFilled}
 use Rattle.compiled.specs.Derived.{planWords}
+use Rattle.compiled.specs.Parts.{restrictorIn, tableIn}
 use Rattle.joins.specs.Projected.{foundIn}
 use Rattle.meaning.proofs.Causes.{first-none}
 use Rattle.meaning.specs.Answer.{restrictorOf}
@@ -21,12 +23,22 @@ use Rattle.parts.proofs.PieceLaws.{piece-before, piece-here, piece-kept}
 use Rattle.parts.specs.Pieces.{piece}
 use Rattle.parts.specs.Plans.{PartPlan}
 use Rattle.plan.specs.Fitted.{PlanFilled}
+use Rattle.plan.specs.Ready.{Ready}
 use Rattle.query.proofs.PartLaws.{from-part}
 use Rattle.query.proofs.TypeWays.{later-none}
 use Rattle.query.specs.Fine.{Accepted}
 use Rattle.query.specs.Parts.{PartIs, PartsCounted, partIn}
 use Rattle.query.specs.declared.layout.Part.{Part as PartRead}
+use Rattle.reach.specs.Onward.{OnwardFilled}
 use Rattle.typecode.specs.Codes.{codeOf}
+
+-- ------------------------------------------------------------------ complete
+module _ {graph plan₀ plan₁ : List ℕ} (l : LengthsFilled plan₀ plan₁) where
+  pub lengths-ready : Ready graph plan₀ → Ready graph plan₁
+  lengths-ready r = l .ready graph r
+
+  pub completed : {plan : List ℕ} → OnwardFilled graph plan₁ plan → Completed graph plan₀ plan
+  completed o = record { ready = o .ready; table-is = o .table-is ∙ l .table-is; restrictor-is = o .restrictor-is ∙ l .restrictor-is }
 
 -- ------------------------------------------------------------------ compile_part
 module _ (query : List ℕ) (i : ℕ) (p : PartRead) (looked : PartIs query i p) where
@@ -34,13 +46,21 @@ module _ (query : List ℕ) (i : ℕ) (p : PartRead) (looked : PartIs query i p)
   unfolding partsFault
   part-accepted ok h = first-none (patternFault (take (p .to - p .from) (drop (p .from) query))) (partsFault (drop (suc i) (partsOf query))) (ap partsFault (sym (from-part query i p looked h)) ∙ later-none (partsOf query) i (ok .fine .accepted)) .0
 
-  pub part-compiled : (graph plan₀ plan : List ℕ) → PartFilled (take (p .to - p .from) (drop (p .from) query)) (p .restrictor) plan₀ → PlanFilled graph plan₀ plan → PlanOf query i graph plan
-  part-compiled graph plan₀ plan f g = record { is = one }
+  part-plan : (graph plan₀ plan : List ℕ) → PartFilled (take (p .to - p .from) (drop (p .from) query)) (p .restrictor) plan₀ → Ready graph plan → tableIn plan ≡ tableIn plan₀ → restrictorIn plan ≡ restrictorIn plan₀ → PlanOf query i graph plan
+  part-plan graph plan₀ plan f r t u = record { is = one }
     where
       one : (l₀ : List Part) (a : Part) (l₁ : List Part) → partsOf query ≡ l₀ ++ a ∷ l₁ → length l₀ ≡ i → PartPlan graph plan a
       one l₀ a l₁ e n =
           let same : a ≡ partIn query p = looked .is l₀ a l₁ e n in
-          record { ready = g .ready; pattern-is = ap patternOf (g .table-is ∙ f .is) ∙ ap (λ (b : Part). patternOf (b .words)) (sym same); restrictor-is = g .restrictor-is ∙ f .restrictor-is ∙ ap (λ (b : Part). restrictorOf (b .restrictor)) (sym same) }
+          record { ready = r; pattern-is = ap patternOf (t ∙ f .is) ∙ ap (λ (b : Part). patternOf (b .words)) (sym same); restrictor-is = u ∙ f .restrictor-is ∙ ap (λ (b : Part). restrictorOf (b .restrictor)) (sym same) }
+
+  module _ (graph plan₀ plan₁ : List ℕ) (f : PartFilled (take (p .to - p .from) (drop (p .from) query)) (p .restrictor) plan₀) (g : PlanFilled graph plan₀ plan₁) where
+    pub part-compiled : PlanOf query i graph plan₁
+    part-compiled = part-plan graph plan₀ plan₁ f (g .ready) (g .table-is) (g .restrictor-is)
+
+    -- for a listing
+    pub part-completed : (plan : List ℕ) → Completed graph plan₁ plan → PlanOf query i graph plan
+    part-completed plan h = part-plan graph plan₀ plan f (h .ready) (h .table-is ∙ g .table-is) (h .restrictor-is ∙ g .restrictor-is)
 
 -- ------------------------------------------------------------------ compile_parts
 -- the plans of the first i of n parts

@@ -8,6 +8,7 @@ use lib.Dec.{eqb}
 use lib.ListN.{getD, length}
 use Rattle.compiled.specs.Copies.{GraphFilled}
 use Rattle.compiled.specs.Derived.{planWords}
+use Rattle.compiled.specs.Parts.{restrictorIn, tableIn}
 use Rattle.joins.specs.Projected.{foundIn}
 use Rattle.meaning.specs.Page.{after}
 use Rattle.meaning.specs.QueryListing.{judgeQuery, queryFixedFault, queryFullListing}
@@ -16,6 +17,7 @@ use Rattle.page.specs.Pages.{Fine, sheetOf}
 use Rattle.page.specs.declared.state.State.{State}
 use Rattle.parts.specs.Pieces.{piece}
 use Rattle.parts.specs.Plans.{PartPlan}
+use Rattle.plan.specs.Ready.{Ready}
 use Rattle.search.specs.Sheet.{placeAll, start}
 use Rattle.typecode.specs.Codes.{codeOf}
 
@@ -29,6 +31,12 @@ pub record Called (image query graph : List ℕ) : Type 0 where
 pub record CalledBy (query graph : List ℕ) : Type 0 where
   pub image : List ℕ
   pub called : Called image query graph
+
+-- what a listing asks is put into the plan: the table and the restrictor stay, and all that is derived
+pub record Completed (graph plan₀ plan : List ℕ) : Type 0 where
+  pub ready : Ready graph plan
+  pub table-is : tableIn plan ≡ tableIn plan₀
+  pub restrictor-is : restrictorIn plan ≡ restrictorIn plan₀
 
 -- the plan is that of the part i
 pub record PlanOf (query : List ℕ) (i : ℕ) (graph plan : List ℕ) : Type 0 where

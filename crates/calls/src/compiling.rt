@@ -1,4 +1,5 @@
 // The image and the query as the words that all else reads.
+use bounds::fill_lengths;
 use compiled::PLAN_WORDS;
 use compiled::fill_graph;
 use compiled::fill_part;
@@ -8,18 +9,20 @@ use plan::fill_plan;
 use query::part_at;
 use query::parts;
 use query::type_code;
+use reach::fill_onward;
 ghost use mathlib.Core.Path.{_≡_};
 ghost use mathlib.Core.Bool.{false};
 ghost use mathlib.Core.Option.{none};
 ghost use Prim.Native.Nat.{_*_, _<_};
 ghost use lib.ListN.{length};
-ghost use Rattle.calls.specs.Called.{NamesOf, PlanOf, PlansOf, TypesOf, isAlone};
+ghost use Rattle.calls.specs.Called.{Completed, NamesOf, PlanOf, PlansOf, TypesOf, isAlone};
 ghost use Rattle.compiled.specs.Copies.{GraphFilled};
-ghost use Rattle.compiled.specs.Derived.{graphWords, planWords};
+ghost use Rattle.compiled.specs.Derived.{graphWords, planWords, watchedIn};
 ghost use Rattle.compiled.specs.Sound.{Lawful};
 ghost use Rattle.meaning.specs.Image.{imageFault};
 ghost use Rattle.meaning.specs.QueryWords.{badLayout, partsOf};
 ghost use Rattle.parts.specs.Shapes.{ShapeIs};
+ghost use Rattle.plan.specs.Ready.{Ready};
 ghost use Rattle.query.specs.Fine.{Accepted};
 
 // The graph of an accepted image.
@@ -31,8 +34,17 @@ pub fn compile_graph(image: &[u8], graph: &mut [u64])
     fill_graph(image, s, graph);
 }
 
-// The plan of the part i.
-pub fn compile_part(query: &[u16], i: usize, graph: &[u64], plan: &mut [u64])
+// What only a listing asks of a plan, put into it.
+fn complete(graph: &[u64], plan: &mut [u64])
+    requires { ⌜ Ready (now graph) (now plan) × (length (now plan) ≡ planWords) × (watchedIn (now plan) ≡ 0) ⌝ }
+    ensures { λ _. ⌜ Completed (now (graph .entry)) (now (plan .entry)) (now (plan .exit)) ⌝ }
+{
+    fill_lengths(plan);
+    fill_onward(graph, plan);
+}
+
+// The plan of the part i. listed: for a page call; a judge does without what only a listing asks.
+pub fn compile_part(query: &[u16], i: usize, graph: &[u64], plan: &mut [u64], listed: bool)
     requires { ⌜ Accepted (now query) × (i < length (partsOf (now query))) × Lawful (now graph) × (length (now plan) ≡ planWords) ⌝ }
     ensures { λ _. ⌜ PlanOf (now (query .entry)) i (now (graph .entry)) (now (plan .exit)) ⌝ }
 {
@@ -41,10 +53,13 @@ pub fn compile_part(query: &[u16], i: usize, graph: &[u64], plan: &mut [u64])
     let to = p.to;
     fill_part(&query[from..to], p.restrictor as u64, plan);
     fill_plan(graph, plan);
+    if listed {
+        complete(graph, plan);
+    }
 }
 
-// The plans of all parts.
-pub fn compile_parts(query: &[u16], graph: &[u64], plans: &mut [u64])
+// The plans of all parts, as each is compiled.
+pub fn compile_parts(query: &[u16], graph: &[u64], plans: &mut [u64], listed: bool)
     requires { ⌜ Accepted (now query) × Lawful (now graph) × (length (now plans) ≡ 4 * planWords) ⌝ }
     ensures { λ _. ⌜ PlansOf (now (query .entry)) (now (graph .entry)) (now (plans .exit)) ⌝ }
 {
@@ -53,7 +68,7 @@ pub fn compile_parts(query: &[u16], graph: &[u64], plans: &mut [u64])
     while i < n {
         let from = i * PLAN_WORDS;
         let to = from + PLAN_WORDS;
-        compile_part(query, i, graph, &mut plans[from..to]);
+        compile_part(query, i, graph, &mut plans[from..to], listed);
         i += 1;
     }
 }

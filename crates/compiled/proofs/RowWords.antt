@@ -68,7 +68,7 @@ module _ (p words : List ℕ) (room : length p ≡ planWords) (long : length wor
   head-long : length (take 328 p) ≡ 328
   head-long = length-take-le 328 p (omega arith)
 
-  words-long : length words ≡ 2200
+  words-long : length words ≡ 3008
   words-long = long ∙ length-take-le (length p - 328) (drop 328 p) (omega (arith, length-drop 328 p)) ∙ omega arith
 
   pub behind-long : length (take 328 p ++ (words ++ drop (length p - 328) (drop 328 p))) ≡ length p

@@ -15,7 +15,7 @@ abbrev pub graphWords : ℕ
 graphWords = 3008
 
 abbrev pub planWords : ℕ
-planWords = 2528
+planWords = 3336
 
 -- the variables of a row, as bits
 abbrev pub variablesIn : List ℕ → ℕ → ℕ
@@ -52,6 +52,18 @@ alongRowsIn p e = getD p (2128 + e) 0
 abbrev pub againstRowsIn : List ℕ → ℕ → ℕ
 againstRowsIn p e = getD p (2328 + e) 0
 
+-- the ends of the matches in which the watched variable has the element k, as the four words of a set; and which variable that is: twice its
+-- number, one more if its elements are edges, 0 for none
+abbrev pub onwardIn : List ℕ → ℕ → List ℕ
+onwardIn p k = setAt p (632 + k)
+
+abbrev pub watchedIn : List ℕ → ℕ
+watchedIn p = getD p 3332 0
+
+-- the numbers of edges that a match can have
+abbrev pub lengthsIn : List ℕ → List ℕ
+lengthsIn p = setAt p 832
+
 -- the variables and the types of every row of the table
 pub record RowsAre (p : List ℕ) : Type 0 where
   pub variables : (i : ℕ) → i * 5 + 5 ≤ length (tableIn p) → variablesIn p i ≡ maskOf (patternAt (tableIn p) i) eight
@@ -84,3 +96,29 @@ pub record MaskPut (at x : ℕ) (p₀ p : List ℕ) : Type 0 where
   pub leaving : LeavingKept p₀ p
   pub here : getD p at 0 ≡ x
   pub other : (j : ℕ) → (j ≡ at → ⊥) → getD p j 0 ≡ getD p₀ j 0
+
+-- all words before those of the watched variable and of the lengths stay
+pub record DerivedKept (p₀ p : List ℕ) : Type 0 where
+  pub long : length p ≡ length p₀
+  pub low : (j : ℕ) → j < 2528 → getD p j 0 ≡ getD p₀ j 0
+
+-- w is put as the set of the element k
+pub record OnwardPut (k : ℕ) (w p₀ p : List ℕ) : Type 0 where
+  pub kept : DerivedKept p₀ p
+  pub watched : watchedIn p ≡ watchedIn p₀
+  pub here : onwardIn p k ≡ w
+  pub other : (j : ℕ) → j < 200 → (j ≡ k → ⊥) → onwardIn p j ≡ onwardIn p₀ j
+  pub lengths : lengthsIn p ≡ lengthsIn p₀
+
+-- x is put as the watched variable
+pub record WatchedPut (x : ℕ) (p₀ p : List ℕ) : Type 0 where
+  pub kept : DerivedKept p₀ p
+  pub here : watchedIn p ≡ x
+  pub onward : (k : ℕ) → k < 200 → onwardIn p k ≡ onwardIn p₀ k
+  pub lengths : lengthsIn p ≡ lengthsIn p₀
+
+-- w is put as the set of the lengths
+pub record LengthsPut (w p₀ p : List ℕ) : Type 0 where
+  pub kept : DerivedKept p₀ p
+  pub watched : watchedIn p ≡ watchedIn p₀
+  pub here : lengthsIn p ≡ w

@@ -1,4 +1,4 @@
-use Rattle.calls.proofs.CompileWays.{part-accepted, part-compiled}
+use Rattle.calls.proofs.CompileWays.{part-accepted, part-compiled, part-completed}
 use Rattle.compiled.proofs.Compiling.{part-sound}
 use native.Mathlib.Omega.{arith}
 use borrow.Author.Needs.{needs}
@@ -26,11 +26,20 @@ fill-part-requires c κs = (search (part-accepted, arith), search needs)
 fill-plan-requires : tie.Need-fill-plan-requires
 fill-plan-requires c κs = (search (part-sound, part-accepted, arith), search needs, search needs)
 
+complete-requires : tie.Need-complete-requires
+complete-requires c κs = search needs
+
 same-length : tie.Need-same-length
 same-length c = search needs
 
 returns : tie.Need-returns
-returns c = search (part-compiled, arith)
+returns c = search (part-completed, arith)
+
+same-length-2 : tie.Need-same-length-2
+same-length-2 c = search needs
+
+returns-2 : tie.Need-returns-2
+returns-2 c = search (part-compiled, arith)
 
 pub compile-part-spec : {M : Type 1} → statement M
 compile-part-spec =
@@ -43,5 +52,8 @@ compile-part-spec =
     part-fill-part-end
     fill-part-requires
     fill-plan-requires
+    complete-requires
     same-length
-    returns)
+    returns
+    same-length-2
+    returns-2)

@@ -6,10 +6,10 @@ use Rattle.calls.proofs.compiling.compile_parts.Statement.{statement}
 use Rattle.calls.proofs.compiling.compile_parts.Tie as tie
 
 abbrev Inv-loop : tie.InvT-loop
-Inv-loop query graph plans₀ n i₀ plans i = PlansBelow query graph plans n i
+Inv-loop query graph plans₀ listed n i₀ plans i = PlansBelow query graph plans n i
 
 abbrev μ-loop : tie.MeasureT-loop
-μ-loop query graph plans₀ n i₀ plans i = n - i
+μ-loop query graph plans₀ listed n i₀ plans i = n - i
 
 parts-requires : tie.Need-parts-requires Inv-loop μ-loop
 parts-requires c κs = search needs
