@@ -61,7 +61,7 @@ static void note_time(struct found *f, size_t page, double seconds)
         f->pages = page + 1;
 }
 
-/* One run; a number of edges alone is a bookmark before all records whose first path has so many. */
+/* One run, with a fresh sitting; a number of edges alone is a bookmark before all records whose first path has so many. */
 static double run(struct listing *l, struct found *f, size_t most_pages, double seconds, uint16_t edges)
 {
     double total = 0;
@@ -70,6 +70,7 @@ static double run(struct listing *l, struct found *f, size_t most_pages, double 
     f->done = 0;
     resize(&l->bookmark, edges > 0);
     l->bookmark.at[0] = edges;
+    memset(l->sitting, 0, sizeof l->sitting);
     do {
         make_room(f);
         double t = fill(l);

@@ -18,8 +18,8 @@ void check_query(struct listing *l)
 
 void fill_page(struct listing *l)
 {
-    gpc_fill_page(l->image.at, l->image.count, l->query.at, l->query.count, l->bookmark.at, l->bookmark.count, l->page.at, l->page.count,
-                  l->work, GPC_WORK_WORDS, l->report, sizeof l->report);
+    gpc_fill_page(l->image.at, l->image.count, l->query.at, l->query.count, l->bookmark.at, l->bookmark.count, l->sitting,
+                  sizeof l->sitting, l->page.at, l->page.count, l->work, GPC_WORK_WORDS, l->report, sizeof l->report);
 }
 
 void keep_bookmark(struct listing *l)

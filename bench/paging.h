@@ -12,6 +12,7 @@ struct listing {
     uint16_t types[GPC_TYPE_WORDS];
     struct words page;
     struct words bookmark;
+    uint8_t sitting[GPC_SITTING_BYTES];
     uint8_t report[GPC_REPORT_BYTES];
     uint16_t work[GPC_WORK_WORDS];
 };

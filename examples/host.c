@@ -1,9 +1,12 @@
 /* A host: lists all answers to a query over a record, page by page. Not proved; it is meant to be copied from.
  *
- *     host IMAGE QUERY
+ *     host IMAGE QUERY [SITTING]
  *
  * IMAGE holds the bytes of a graph image, QUERY the words of a query, low byte first (see encode.c). Prints the types, each record
- * on a line and the total, as the program that prints a listing does; lines that begin with # tell of the calls.
+ * on a line and their number, as the program that prints a listing does; lines that begin with # tell of the calls.
+ *
+ * SITTING is a file of 4 bytes in which a sitting goes on from run to run; where there is none, a fresh one begins. Runs that share it
+ * must come one after another.
  */
 #include <inttypes.h>
 #include <stdio.h>
@@ -11,19 +14,22 @@
 #include <string.h>
 
 #include "record.h"
+#include "sitting.h"
 
 /* Too small for most records on purpose, so that growing is seen. A host that wants it simple and fast lends 19,224 words or more:
  * any record fits in them. */
 enum { FIRST_PAGE_WORDS = 4 };
 
-/* A listing keeps image and query; the bookmark is all that goes from call to call. */
+/* A listing keeps image and query; the bookmark and the sitting are all that goes from call to call. */
 struct listing {
     struct bytes image;
     struct words query;
     uint16_t types[GPC_TYPE_WORDS];
     struct words page;
     struct words bookmark;
-    uint64_t total;
+    uint8_t sitting[GPC_SITTING_BYTES];
+    uint64_t before; /* the sitting's total when the run began */
+    uint64_t noted;  /* the totals of the sittings that came to their end since */
     uint8_t report[GPC_REPORT_BYTES];
     uint16_t work[GPC_WORK_WORDS];
 };
@@ -79,7 +85,6 @@ static void take_page(struct listing *l)
     }
     if (records > 0)
         keep_bookmark(l, record, words);
-    l->total += records;
 }
 
 /* The page has no room for the next record. Nothing was placed, so the page may be lost, and the same bookmark serves again. It grows
@@ -91,13 +96,27 @@ static void grow_page(struct listing *l)
     resize(&l->page, 8 * (size_t)needed);
 }
 
+/* The sitting's total does not take the page's count. Nothing was placed, so the same bookmark serves again. */
+static void begin_sitting(struct listing *l)
+{
+    uint32_t total = total_of(l->sitting);
+    printf("# sitting: %" PRIu32 " lines, and no room for those of this page; a fresh one begins\n", total);
+    l->noted += total;
+    memset(l->sitting, 0, sizeof l->sitting);
+}
+
 /* One call. Whether another one is due. */
 static int list_page(struct listing *l)
 {
-    gpc_fill_page(l->image.at, l->image.count, l->query.at, l->query.count, l->bookmark.at, l->bookmark.count, l->page.at,
-                  l->page.count, l->work, GPC_WORK_WORDS, l->report, sizeof l->report);
-    if (reported(l->report, GPC_REPORT_REFUSAL) == GPC_PAGE_TOO_SHORT) {
+    gpc_fill_page(l->image.at, l->image.count, l->query.at, l->query.count, l->bookmark.at, l->bookmark.count, l->sitting,
+                  sizeof l->sitting, l->page.at, l->page.count, l->work, GPC_WORK_WORDS, l->report, sizeof l->report);
+    uint64_t refusal = reported(l->report, GPC_REPORT_REFUSAL);
+    if (refusal == GPC_PAGE_TOO_SHORT) {
         grow_page(l);
+        return 1;
+    }
+    if (refusal == GPC_SITTING_OVERRUN) {
+        begin_sitting(l);
         return 1;
     }
     stop_if_refused(l->report);
@@ -105,21 +124,35 @@ static int list_page(struct listing *l)
     return reported(l->report, GPC_REPORT_DONE) == 0;
 }
 
+/* All pages, and how many lines were printed on them. */
+static void list(struct listing *l)
+{
+    l->before = total_of(l->sitting);
+    while (list_page(l))
+        ;
+    printf("done %" PRIu64 "\n", l->noted + total_of(l->sitting) - l->before);
+}
+
 int main(int argc, char **argv)
 {
     static struct listing l;
-    if (argc != 3) {
-        fputs("usage: host IMAGE QUERY\n", stderr);
+    const char *kept = argc == 4 ? argv[3] : NULL;
+    if (argc != 3 && argc != 4) {
+        fputs("usage: host IMAGE QUERY [SITTING]\n", stderr);
         return 2;
     }
     l.image = read_bytes(argv[1]);
     l.query = read_words(argv[2]);
+    if (kept != NULL)
+        read_sitting(kept, l.sitting);
     resize(&l.page, FIRST_PAGE_WORDS);
     check(&l);
     print_types(l.types);
-    while (list_page(&l))
-        ;
-    printf("done %" PRIu64 "\n", l.total);
+    list(&l);
+    if (kept != NULL) {
+        write_sitting(kept, l.sitting);
+        printf("# sitting: %" PRIu32 " lines\n", total_of(l.sitting));
+    }
     free(l.image.at);
     free(l.query.at);
     free(l.page.at);

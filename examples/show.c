@@ -50,11 +50,13 @@ static void read_names(const char *file)
     }
 }
 
-/* The page after the bookmark. A page this long has room for any record, so that 23 does not come. */
+/* The page after the bookmark. A page this long has room for any record, so that 23 does not come; nor does 34, since no total is kept
+ * and each sitting is a fresh one. */
 static void fill(size_t bookmark_words)
 {
-    gpc_fill_page(show.view.image.at, show.view.image.count, show.query.at, show.query.count, show.bookmark, bookmark_words, show.page,
-                  GPC_WORK_WORDS, show.work, GPC_WORK_WORDS, show.report, sizeof show.report);
+    uint8_t sitting[GPC_SITTING_BYTES] = {0};
+    gpc_fill_page(show.view.image.at, show.view.image.count, show.query.at, show.query.count, show.bookmark, bookmark_words, sitting,
+                  sizeof sitting, show.page, GPC_WORK_WORDS, show.work, GPC_WORK_WORDS, show.report, sizeof show.report);
     stop_if_refused(show.report);
 }
 

@@ -3,18 +3,20 @@
 
 #include "fuzz.h"
 
-enum { IMAGE, QUERY, WORDS, PAGE, WORK, REPORT, PIECES };
+enum { IMAGE, QUERY, WORDS, SITTING, PAGE, WORK, REPORT, PIECES };
 enum { GUARD = 64, ROOM = 2 * MOST_WORK + 2 * GUARD + 2 };
 
-/* Memory to lend. What a call may only read has contents of its own; the rest holds noise. */
+/* Memory to lend. What a call may only read and the sitting have contents of their own; the rest holds noise. */
 struct piece {
     const void *from;
     size_t width, bytes;
     uint8_t *data;
 };
 
+/* Answered: whether report and sitting are long enough for a report to be written. */
 struct call {
     struct piece piece[PIECES];
+    int answered;
     uint64_t (*invoke)(const struct call *);
 };
 
@@ -59,7 +61,7 @@ static void check_guards(const struct call *c, unsigned round)
         const struct piece *p = &c->piece[i];
         EXPECT(memcmp(p->data - GUARD, noise[round], GUARD) == 0, "written before a lent piece");
         EXPECT(memcmp(p->data + p->bytes, noise[round] + GUARD + p->bytes, GUARD) == 0, "written past a lent piece");
-        if (p->from != NULL)
+        if (p->from != NULL && i != SITTING)
             EXPECT(memcmp(p->data, p->from, p->bytes) == 0, "written what may only be read");
     }
 }
@@ -76,7 +78,7 @@ static struct outcome outcome_of(const struct call *c, uint64_t result)
 static void check_report(const struct call *c, const struct outcome *o, unsigned round)
 {
     const struct piece *r = &c->piece[REPORT];
-    EXPECT(o->result == (r->bytes >= GPC_REPORT_BYTES), "a result that is not told by the report's length");
+    EXPECT(o->result == (uint64_t)c->answered, "a result that is not told by the lengths of report and sitting");
     EXPECT(untouched(r, o->result == 1 ? GPC_REPORT_BYTES : 0, round), "report bytes that are no number");
     EXPECT(o->number[6] == 0 && o->number[7] == 0, "a number where 0 belongs");
     for (int i = 2; i < 8 && o->number[0] != 0; i++)
@@ -85,7 +87,8 @@ static void check_report(const struct call *c, const struct outcome *o, unsigned
 
 static void check_work(const struct piece *w, const struct outcome *o, unsigned round)
 {
-    int kept = o->result == 0 || (o->number[0] != 0 && o->number[0] != GPC_PAGE_TOO_SHORT);
+    uint64_t n = o->number[0];
+    int kept = o->result == 0 || (n != 0 && n != GPC_PAGE_TOO_SHORT && n != GPC_SITTING_OVERRUN);
     if (!kept)
         EXPECT(is_zero(w->data, 2 * GPC_WORK_WORDS), "work words that are not cleared");
     EXPECT(untouched(w, kept ? 0 : 2 * GPC_WORK_WORDS, round), "work words that are not left alone");
@@ -190,21 +193,39 @@ static uint64_t invoke_fill(const struct call *c)
 {
     const struct piece *p = c->piece;
     return gpc_fill_page(p[IMAGE].data, p[IMAGE].bytes, (const uint16_t *)p[QUERY].data, p[QUERY].bytes / 2,
-                         (const uint16_t *)p[WORDS].data, p[WORDS].bytes / 2, (uint16_t *)p[PAGE].data, p[PAGE].bytes / 2,
-                         (uint16_t *)p[WORK].data, p[WORK].bytes / 2, p[REPORT].data, p[REPORT].bytes);
+                         (const uint16_t *)p[WORDS].data, p[WORDS].bytes / 2, p[SITTING].data, p[SITTING].bytes,
+                         (uint16_t *)p[PAGE].data, p[PAGE].bytes / 2, (uint16_t *)p[WORK].data, p[WORK].bytes / 2, p[REPORT].data,
+                         p[REPORT].bytes);
 }
 
 static size_t page_bytes(const struct outcome *o) { return 2 * (size_t)o->number[3]; }
 
+/* The total is raised by the records on the page, and by nothing else; so it never passes its range. No record has fewer than two words,
+ * so 34 needs a total that half the page's words would carry past it. */
+static void check_sitting(const struct piece *sitting, const struct outcome *o, size_t page_words)
+{
+    const uint8_t *lent = sitting->from;
+    if (o->result == 0 || o->number[0] != 0) {
+        EXPECT(memcmp(sitting->data, lent, sitting->bytes) == 0, "a sitting written by a call that places nothing");
+        EXPECT(o->number[0] != GPC_SITTING_OVERRUN || total_of(lent) + page_words / 2 > UINT32_MAX, "34 far from the end");
+        return;
+    }
+    EXPECT(total_of(sitting->data) == total_of(lent) + o->number[2], "a total that is not raised by the page's count");
+    EXPECT(memcmp(sitting->data + GPC_SITTING_BYTES, lent + GPC_SITTING_BYTES, sitting->bytes - GPC_SITTING_BYTES) == 0,
+           "sitting bytes that are no total");
+}
+
 static void check_fill(const struct call *c, const struct outcome *o, unsigned round)
 {
     const struct piece *page = &c->piece[PAGE];
-    EXPECT(is_of_listing(o->number[0]) || o->number[0] == GPC_PAGE_TOO_SHORT, "no number of the page");
+    uint64_t n = o->number[0];
+    EXPECT(is_of_listing(n) || n == GPC_PAGE_TOO_SHORT || n == GPC_SITTING_OVERRUN, "no number of the page");
     EXPECT(o->number[3] <= page->bytes / 2 && o->number[4] <= 1, "words or mark that cannot be");
     EXPECT((o->number[2] == 0) == (o->number[3] == 0), "records without words, or words without records");
-    EXPECT((o->number[0] == GPC_PAGE_TOO_SHORT) == (o->number[5] != 0) && (o->number[5] == 0 || o->number[5] > page->bytes / 2),
+    EXPECT((n == GPC_PAGE_TOO_SHORT) == (o->number[5] != 0) && (o->number[5] == 0 || o->number[5] > page->bytes / 2),
            "a need that the page has room for");
     EXPECT(untouched(page, page_bytes(o), round), "page words that are not left alone");
+    check_sitting(&c->piece[SITTING], o, page->bytes / 2);
     check_work(&c->piece[WORK], o, round);
 }
 
@@ -217,7 +238,8 @@ static struct call call_on(const struct subject *s, const uint16_t *words, size_
                                [WORDS] = {.from = words == NULL ? nothing : words, .width = 2, .bytes = 2 * count},
                                [PAGE] = {.width = 2, .bytes = 2 * page},
                                [WORK] = {.width = 2, .bytes = 2 * work},
-                               [REPORT] = {.width = 1, .bytes = report}}};
+                               [REPORT] = {.width = 1, .bytes = report}},
+                     .answered = report >= GPC_REPORT_BYTES};
     return c;
 }
 
@@ -243,11 +265,16 @@ struct outcome judge_record(const struct subject *s, const uint16_t *rec, size_t
     return run(&c, check_judge, NULL, NULL);
 }
 
-struct outcome fill_page(const struct subject *s, const uint16_t *bookmark, size_t bookmark_words, uint16_t *page, size_t page_words,
-                         size_t work_words, size_t report_bytes)
+struct outcome fill_page(const struct subject *s, const uint16_t *bookmark, size_t bookmark_words, struct sitting *sitting,
+                         uint16_t *page, size_t page_words, size_t work_words, size_t report_bytes)
 {
+    const struct sitting lent = *sitting;
     struct call c = call_on(s, bookmark, bookmark_words, page_words, work_words, report_bytes);
+    c.piece[SITTING] = (struct piece){.from = lent.byte, .width = 1, .bytes = lent.bytes};
+    c.answered &= lent.bytes >= GPC_SITTING_BYTES;
     c.invoke = invoke_fill;
     counts.pages++;
-    return run(&c, check_fill, page, page_bytes);
+    struct outcome o = run(&c, check_fill, page, page_bytes);
+    memcpy(sitting->byte, c.piece[SITTING].data, lent.bytes);
+    return o;
 }

@@ -13,6 +13,7 @@ enum {
     MOST_QUERY = 1 + GPC_MOST_PARTS * (3 + MOST_PATTERN),
     MOST_PAGE = 8192,
     MOST_WORK = GPC_WORK_WORDS + 64,
+    MOST_SITTING = 2 * GPC_SITTING_BYTES,
     MOST_RECORDS = MOST_PAGE / 2
 };
 
@@ -53,6 +54,17 @@ size_t parts_of(const struct subject *s, struct part part[GPC_MOST_PARTS]);
 /* The same image with one part as a query of its own, without a name, under some restrictor. */
 void part_alone(const struct subject *s, const struct part *p, uint16_t restrictor, struct subject *alone);
 
+/* A sitting as it is lent: so many bytes, the first four its total. */
+struct sitting {
+    uint8_t byte[MOST_SITTING];
+    size_t bytes;
+};
+
+/* A sitting of four bytes, and one of any length whose total is at an edge or anywhere. */
+struct sitting sitting_at(uint64_t total);
+struct sitting make_sitting(struct bytes *b);
+uint64_t total_of(const uint8_t *sitting);
+
 /* What a call hands back. */
 struct outcome {
     uint64_t result;
@@ -60,12 +72,12 @@ struct outcome {
 };
 
 /* The four operations, each called twice on memory with other contents and another alignment: both calls must keep every promise of
- * the header and agree. What was written into types or page is copied out. */
+ * the header and agree. What was written into types, page or sitting is copied out. */
 struct outcome read_image(const struct subject *s, size_t report_bytes);
 struct outcome check_query(const struct subject *s, uint16_t *types, size_t types_words, size_t report_bytes);
 struct outcome judge_record(const struct subject *s, const uint16_t *rec, size_t rec_words, size_t work_words, size_t report_bytes);
-struct outcome fill_page(const struct subject *s, const uint16_t *bookmark, size_t bookmark_words, uint16_t *page, size_t page_words,
-                         size_t work_words, size_t report_bytes);
+struct outcome fill_page(const struct subject *s, const uint16_t *bookmark, size_t bookmark_words, struct sitting *sitting,
+                         uint16_t *page, size_t page_words, size_t work_words, size_t report_bytes);
 
 /* Checks what the checker said of a query against what it says of the parts, each as a query of its own. */
 void check_parts(const struct subject *s, const struct outcome *o, const uint16_t *types);
@@ -94,6 +106,9 @@ size_t length_of(const struct listing *l, size_t i);
 /* Checks the listing of an accepted subject against itself: pages, judge and bookmarks. */
 void check_listing(const struct subject *s, const struct listing *l, struct bytes *b);
 
+/* Checks pages of an accepted subject with any total against those with a fresh sitting. */
+void check_totals(const struct subject *s, const struct listing *l, struct bytes *b);
+
 /* Checks the listing of a subject against those of its parts alone: by trails, and joined. */
 void check_join(const struct subject *s, const struct listing *l);
 
@@ -103,9 +118,9 @@ void check_conditions(const struct subject *s, const uint16_t *types, const stru
 
 struct counts {
     uint64_t inputs, calls, images, queries, listings, complete, records, pages, judged, joined, joined_records, given_up;
-    uint64_t conditions, written;
+    uint64_t conditions, written, totals;
     uint64_t truths[3]; /* records for which a condition was false, unknown, true */
-    uint64_t refused[GPC_QUERY_UNTYPED + 1];
+    uint64_t refused[GPC_SITTING_OVERRUN + 1];
 };
 
 extern struct counts counts;

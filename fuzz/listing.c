@@ -61,7 +61,8 @@ size_t length_of(const struct listing *l, size_t i) { return l->ends[i + 1] - l-
 /* The words of the page part into as many records as it says, strictly rising. */
 void list(const struct subject *s, const uint16_t *types, struct listing *l)
 {
-    struct outcome o = fill_page(s, NULL, 0, l->words, MOST_PAGE, GPC_WORK_WORDS, GPC_REPORT_BYTES);
+    struct sitting fresh = sitting_at(0);
+    struct outcome o = fill_page(s, NULL, 0, &fresh, l->words, MOST_PAGE, GPC_WORK_WORDS, GPC_REPORT_BYTES);
     EXPECT(o.number[0] == 0 || o.number[0] == GPC_PAGE_TOO_SHORT, "an accepted listing refused");
     l->records = 0;
     l->ends[0] = 0;
@@ -111,18 +112,20 @@ static size_t expect_page(const struct listing *l, size_t k, const struct outcom
     return next;
 }
 
-/* The listing by small pages; where one is too short, the next has just the room that was asked for. */
+/* The listing by small pages of one sitting; where one is too short, the next has just the room that was asked for. */
 static void check_pages(const struct subject *s, const struct listing *l, struct bytes *b)
 {
     static uint16_t page[MOST_PAGE];
+    struct sitting sitting = sitting_at(0);
     size_t k = 0, asked = 0;
     for (int turn = 0; turn < MOST_PAGES; turn++) {
         size_t room = asked != 0 ? asked : below(b, 4) * (size_t)below(b, 24);
         const uint16_t *bookmark = k == 0 ? NULL : words_of(l, k - 1);
         size_t marked = k == 0 ? 0 : length_of(l, k - 1);
-        struct outcome o = fill_page(s, bookmark, marked, page, room, GPC_WORK_WORDS + below(b, 3), GPC_REPORT_BYTES);
+        struct outcome o = fill_page(s, bookmark, marked, &sitting, page, room, GPC_WORK_WORDS + below(b, 3), GPC_REPORT_BYTES);
         k = expect_page(l, k, &o, page, room);
         asked = o.number[5] <= MOST_PAGE ? o.number[5] : 0;
+        EXPECT(o.number[4] == 0 || !l->complete || total_of(sitting.byte) == l->records, "a total that is not the listing's records");
         if (o.number[4] == 1 || (k == l->records && !l->complete))
             return;
     }
@@ -153,7 +156,8 @@ static void check_near(const struct subject *s, const struct listing *l, struct 
     static uint16_t near[MOST_PAGE + 1], page[MOST_PAGE];
     for (int turn = 0; turn < 4; turn++) {
         size_t n = near_record(l, b, near), k = passed_by(l, near, n), room = below(b, 64);
-        struct outcome o = fill_page(s, near, n, page, room, GPC_WORK_WORDS, GPC_REPORT_BYTES);
+        struct sitting fresh = sitting_at(0);
+        struct outcome o = fill_page(s, near, n, &fresh, page, room, GPC_WORK_WORDS, GPC_REPORT_BYTES);
         expect_page(l, k, &o, page, room);
         if (k == l->records && !l->complete)
             continue;

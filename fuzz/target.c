@@ -49,11 +49,12 @@ void print_counts(void)
     printf("accepted: %" PRIu64 " images, %" PRIu64 " queries; %" PRIu64 " pages filled, %" PRIu64 " records judged\n", c->images,
            c->queries, c->pages, c->judged);
     printf("%" PRIu64 " listings, %" PRIu64 " of them to their end, with %" PRIu64 " records\n", c->listings, c->complete, c->records);
+    printf("%" PRIu64 " pages compared with those of another total\n", c->totals);
     printf("%" PRIu64 " joins compared with their parts, with %" PRIu64 " records\n", c->joined, c->joined_records);
     printf("%" PRIu64 " conditions compared with their negations: true for %" PRIu64 " records, false for %" PRIu64 ", unknown for %" PRIu64
            "; %" PRIu64 " queries written otherwise\n", c->conditions, c->truths[2], c->truths[0], c->truths[1], c->written);
     fputs("calls refused, by number:", stdout);
-    for (int i = 1; i <= GPC_QUERY_UNTYPED; i++)
+    for (int i = 1; i <= GPC_SITTING_OVERRUN; i++)
         if (counts.refused[i] > 0)
             printf(" %d: %" PRIu64, i, counts.refused[i]);
     puts("");
@@ -93,11 +94,12 @@ static struct outcome cause_of(const struct subject *s, const struct outcome *im
     return none;
 }
 
+/* 23 and 34 come after every cause. */
 static void expect_cause(const struct outcome *o, const struct outcome *cause)
 {
     if (o->result == 0)
         return;
-    uint64_t number = o->number[0] == GPC_PAGE_TOO_SHORT ? 0 : o->number[0];
+    uint64_t n = o->number[0], number = n == GPC_PAGE_TOO_SHORT || n == GPC_SITTING_OVERRUN ? 0 : n;
     EXPECT(number == cause->number[0] && o->number[1] == cause->number[1], "another cause than the first");
     feature(3, o->number[0]);
 }
@@ -109,10 +111,11 @@ static void check_odd(const struct subject *s, const struct outcome *image, cons
     size_t n = below(b, 64), work = length_near(b, GPC_WORK_WORDS), report = length_near(b, GPC_REPORT_BYTES);
     for (size_t i = 0; i < n; i++)
         words[i] = (uint16_t)below(b, 8);
+    struct sitting sitting = make_sitting(b);
     struct outcome cause = cause_of(s, image, query, work);
     struct outcome o = judge_record(s, words, n, work, report);
     expect_cause(&o, &cause);
-    o = fill_page(s, words, n, page, pick(b), work, report);
+    o = fill_page(s, words, n, &sitting, page, pick(b), work, report);
     expect_cause(&o, &cause);
 }
 
@@ -137,6 +140,7 @@ static void run_listing(const struct subject *s, const uint16_t *types, struct b
     list(s, types, &l);
     note_shape(s, &l);
     check_listing(s, &l, b);
+    check_totals(s, &l, b);
     check_join(s, &l);
     check_conditions(s, types, &l, b);
 }

@@ -1,38 +1,20 @@
-/* Libraries that are wrong on purpose: the proved functions, each with one fault on top, which the fuzz target must find.
- * Linked with --wrap for the functions of the header; WRONG is the fault's number, from 1. fuzz/caught tries them all. */
+/* The faults of fuzz/wrong.h in image, query, record and page; linked with --wrap for the functions of the header. */
 #include <string.h>
 
-#include "fuzz.h"
-
-enum {
-    ONE_WORD_TOO_MANY_CLEARED = 1,
-    WORK_CLEARED_ON_22,
-    COUNT_INVENTED,
-    NEED_INVENTED,
-    EVERY_PAGE_DONE,
-    NO_PAGE_DONE,
-    BOOKMARK_IGNORED,
-    FULL_PAGE_REFUSED,
-    SHORTEST_AS_ANY,
-    OTHER_ON_EVERY_SECOND_CALL,
-    NO_TO_ALL,
-    YES_TO_ALL,
-    IMAGE_WRITTEN,
-    SHORT_REPORT_TAKEN,
-    ONE_TYPE_TOO_MANY,
-    CLASH_PASSED,
-    PARTS_SWAPPED,
-    SECOND_OF_LAST_DROPPED,
-    ABSENT_AS_FALSE,
-    AND_AS_OR
-};
+#include "wrong.h"
 
 uint64_t __real_gpc_read_image(const uint8_t *, size_t, uint8_t *, size_t);
 uint64_t __real_gpc_check_query(const uint16_t *, size_t, uint16_t *, size_t, uint8_t *, size_t);
 uint64_t __real_gpc_judge_record(const uint8_t *, size_t, const uint16_t *, size_t, const uint16_t *, size_t, uint16_t *, size_t, uint8_t *,
                                  size_t);
-uint64_t __real_gpc_fill_page(const uint8_t *, size_t, const uint16_t *, size_t, const uint16_t *, size_t, uint16_t *, size_t, uint16_t *,
-                              size_t, uint8_t *, size_t);
+uint64_t __real_gpc_fill_page(const uint8_t *, size_t, const uint16_t *, size_t, const uint16_t *, size_t, uint8_t *, size_t, uint16_t *,
+                              size_t, uint16_t *, size_t, uint8_t *, size_t);
+
+uint64_t fill_right(const struct lent *l)
+{
+    return __real_gpc_fill_page(l->image, l->image_bytes, l->query, l->query_words, l->bookmark, l->bookmark_words, l->sitting,
+                                l->sitting_bytes, l->page, l->page_words, l->work, l->work_words, l->report, l->report_bytes);
+}
 
 /* A query that the wrong library takes for an accepted one that it is lent: shortest as any, the first two parts the other way round, or
  * and as or. */
@@ -151,18 +133,20 @@ static size_t leading_words(const uint16_t *rec, size_t parts)
 }
 
 /* Whether there is such a listing: one of several parts that comes to its end on a page. */
-static int drop_second(const uint8_t *image, size_t image_bytes, const uint16_t *query, size_t query_words, uint16_t *types)
+static int drop_second(const struct lent *l, uint16_t *types)
 {
     static uint16_t all[1 << 16], work[GPC_WORK_WORDS];
-    uint8_t report[GPC_REPORT_BYTES];
-    __real_gpc_check_query(query, query_words, types, GPC_TYPE_WORDS, report, sizeof report);
-    __real_gpc_fill_page(image, image_bytes, query, query_words, NULL, 0, all, 1 << 16, work, GPC_WORK_WORDS, report, sizeof report);
-    if (report[0] != 0 || report[32] == 0 || query[0] < 2)
+    uint8_t report[GPC_REPORT_BYTES], sitting[GPC_SITTING_BYTES] = {0};
+    struct lent whole = {l->image, l->image_bytes, l->query, l->query_words, NULL, 0, sitting, sizeof sitting, all, 1 << 16, work,
+                         GPC_WORK_WORDS, report, sizeof report};
+    __real_gpc_check_query(l->query, l->query_words, types, GPC_TYPE_WORDS, report, sizeof report);
+    fill_right(&whole);
+    if (report[0] != 0 || report[32] == 0 || l->query[0] < 2)
         return 0;
     const uint16_t *before = NULL;
     left_words = 0;
     for (size_t at = 0, words = report[24] + 256u * report[25]; at < words;) {
-        size_t size = record_words(types, query[0], all + at, words - at), leading = leading_words(all + at, query[0]);
+        size_t size = record_words(types, l->query[0], all + at, words - at), leading = leading_words(all + at, l->query[0]);
         if (before == NULL || memcmp(before, all + at, 2 * leading) != 0) {
             memcpy(left + left_words, all + at, 2 * size);
             left_words += size;
@@ -179,30 +163,36 @@ static void put_number(uint8_t *report, int i, size_t n)
         report[8 * i + k] = (uint8_t)(k < 4 ? n >> 8 * k : 0);
 }
 
-/* The plain machine's page of what is left; report and work are as after a call that no cause but 23 refused. */
-static void fill_from_left(const uint16_t *types, size_t parts, const uint16_t *bookmark, size_t bookmark_words, uint16_t *page,
-                           size_t page_words, uint8_t *report)
+/* The plain machine's page of what is left; report and work are as after a call that no cause but 23 and 34 refused. */
+static void fill_from_left(const struct lent *l, const uint16_t *types)
 {
+    static uint16_t page[1 << 16];
     size_t at = 0, size = 0, used = 0, placed = 0;
-    memset(report, 0, GPC_REPORT_BYTES);
+    memset(l->report, 0, GPC_REPORT_BYTES);
     for (; at < left_words; at += size) {
-        size = record_words(types, parts, left + at, left_words - at);
-        if (order(left + at, size, bookmark, bookmark_words) <= 0)
+        size = record_words(types, l->query[0], left + at, left_words - at);
+        if (order(left + at, size, l->bookmark, l->bookmark_words) <= 0)
             continue;
-        if (used + size > page_words)
+        if (used + size > l->page_words)
             break;
         memcpy(page + used, left + at, 2 * size);
         used += size;
         placed++;
     }
     if (at < left_words && placed == 0) {
-        put_number(report, GPC_REPORT_REFUSAL, GPC_PAGE_TOO_SHORT);
-        put_number(report, GPC_REPORT_NEEDED, size);
+        put_number(l->report, GPC_REPORT_REFUSAL, GPC_PAGE_TOO_SHORT);
+        put_number(l->report, GPC_REPORT_NEEDED, size);
         return;
     }
-    put_number(report, GPC_REPORT_RECORDS, placed);
-    put_number(report, GPC_REPORT_WORDS, used);
-    put_number(report, GPC_REPORT_DONE, at == left_words);
+    if (total_of(l->sitting) + placed > UINT32_MAX) {
+        put_number(l->report, GPC_REPORT_REFUSAL, GPC_SITTING_OVERRUN);
+        return;
+    }
+    memcpy(l->page, page, 2 * used);
+    set_total(l->sitting, total_of(l->sitting) + placed);
+    put_number(l->report, GPC_REPORT_RECORDS, placed);
+    put_number(l->report, GPC_REPORT_WORDS, used);
+    put_number(l->report, GPC_REPORT_DONE, at == left_words);
 }
 
 /* The fault on what a call reported or left. */
@@ -224,24 +214,34 @@ static void spoil(uint16_t *work, size_t work_words, uint8_t *report)
         report[32] = 1;
 }
 
+/* What the wrong library takes for what it is lent. */
+static struct lent taken(struct lent l)
+{
+    if (WRONG == BOOKMARK_IGNORED)
+        l.bookmark_words = 0;
+    if (WRONG == FULL_PAGE_REFUSED && l.page_words > 0)
+        l.page_words--;
+    if (WRONG == SHORTEST_AS_ANY || WRONG == PARTS_SWAPPED || WRONG == AND_AS_OR)
+        l.query = other_query(l.query, l.query_words);
+    if (WRONG == ABSENT_AS_FALSE)
+        l.image = filled_image(l.image, &l.image_bytes);
+    return l;
+}
+
 uint64_t __wrap_gpc_fill_page(const uint8_t *image, size_t image_bytes, const uint16_t *query, size_t query_words,
-                              const uint16_t *bookmark, size_t bookmark_words, uint16_t *page, size_t page_words, uint16_t *work,
-                              size_t work_words, uint8_t *report, size_t report_bytes)
+                              const uint16_t *bookmark, size_t bookmark_words, uint8_t *sitting, size_t sitting_bytes, uint16_t *page,
+                              size_t page_words, uint16_t *work, size_t work_words, uint8_t *report, size_t report_bytes)
 {
     uint16_t types[GPC_TYPE_WORDS];
-    if (WRONG == BOOKMARK_IGNORED)
-        bookmark_words = 0;
-    if (WRONG == FULL_PAGE_REFUSED && page_words > 0)
-        page_words--;
-    if (WRONG == SHORTEST_AS_ANY || WRONG == PARTS_SWAPPED || WRONG == AND_AS_OR)
-        query = other_query(query, query_words);
-    if (WRONG == ABSENT_AS_FALSE)
-        image = filled_image(image, &image_bytes);
-    int dropped = WRONG == SECOND_OF_LAST_DROPPED && drop_second(image, image_bytes, query, query_words, types);
-    uint64_t result = __real_gpc_fill_page(image, image_bytes, query, query_words, bookmark, bookmark_words, page,
-                                           dropped ? 0 : page_words, work, work_words, report, report_bytes);
+    struct lent l = taken((struct lent){image, image_bytes, query, query_words, bookmark, bookmark_words, sitting, sitting_bytes, page,
+                                        page_words, work, work_words, report, report_bytes});
+    int dropped = WRONG == SECOND_OF_LAST_DROPPED && drop_second(&l, types);
+    if (dropped)
+        l.page_words = 0;
+    uint64_t result = fill_counted(&l);
+    l.page_words = page_words;
     if (result == 1 && dropped && (report[0] == 0 || report[0] == GPC_PAGE_TOO_SHORT))
-        fill_from_left(types, query[0], bookmark, bookmark_words, page, page_words, report);
+        fill_from_left(&l, types);
     if (result == 1)
         spoil(work, work_words, report);
     return result;

@@ -1,13 +1,13 @@
 /* GPC listings over a fitting record: the operations that are open to C.
  *
  * Every promise below holds for all contents of all lent memory, and the library is proved to keep it; only the stack that a call takes
- * is measured.
+ * is measured, and what is said of time is not proved.
  *
  * Lent memory
  *   - A piece is passed as a pointer and a count of elements. A piece of count 0 may have a null pointer.
- *   - A piece that a call may write must not overlap any other piece lent to that call.
- *   - A call keeps no pointer, allocates nothing and touches nothing else. There is no state between calls, so calls may run side by
- *     side on different memory.
+ *   - A piece that a call may write (types, sitting, page, work, report) must not overlap any other piece lent to that call.
+ *   - A call keeps no pointer, allocates nothing and touches nothing else. The library has no state between calls: what goes from call
+ *     to call, a bookmark and a sitting, is the host's. So calls may run side by side on different memory.
  *   - Pieces of 16-bit words are aligned as uint16_t is.
  *   - A call takes less than GPC_STACK_BYTES of stack. That is measured where calls go deepest (four parts of 200 edges, groups two
  *     deep: 607,208 bytes) and not proved.
@@ -16,7 +16,8 @@
  *   Reported numbers are written into the first 64 bytes of the report area, as eight 64-bit numbers, low byte first. GPC_REPORT_...
  *   below says which number is at which index; [i] stands for the number at index i. Numbers that an operation does not name are 0.
  *   Bytes past the first 64 keep what they held.
- *   With fewer than 64 bytes a call writes nothing anywhere and returns 0; otherwise it returns 1, also where it refuses.
+ *   With fewer than 64 bytes a call writes nothing anywhere and returns 0, whatever else is wrong with it, and so does gpc_fill_page with
+ *   a sitting of fewer than 4; otherwise a call returns 1, also where it refuses.
  */
 #ifndef GPC_H
 #define GPC_H
@@ -29,6 +30,7 @@ extern "C" {
 #endif
 
 #define GPC_REPORT_BYTES 64    /* a report area */
+#define GPC_SITTING_BYTES 4    /* a sitting */
 #define GPC_STACK_BYTES 786432 /* a call takes less stack */
 
 /* The numbers of a report by their index. */
@@ -153,9 +155,10 @@ uint64_t gpc_check_query(const uint16_t *query, size_t query_words, uint16_t *ty
 
 /* Refusal numbers of the judge and of the page, tried in this order after those of the image (1 to 7) and of the query (31, 32, 11 to
  * 16 of each part, 33). */
-#define GPC_RESTRICTOR 21     /* a part's restrictor that is not 1 to 4 */
-#define GPC_WORK_TOO_SHORT 22 /* a work buffer of fewer than 20,000 words */
-#define GPC_PAGE_TOO_SHORT 23 /* the next record is longer than the page; only gpc_fill_page */
+#define GPC_RESTRICTOR 21      /* a part's restrictor that is not 1 to 4 */
+#define GPC_WORK_TOO_SHORT 22  /* a work buffer of fewer than 20,000 words */
+#define GPC_PAGE_TOO_SHORT 23  /* the next record is longer than the page; only gpc_fill_page */
+#define GPC_SITTING_OVERRUN 34 /* the page's count would carry the sitting's total past 4,294,967,295; only gpc_fill_page */
 
 #define GPC_WORK_WORDS 20000        /* a work buffer */
 #define GPC_MOST_RECORD_WORDS 19224 /* no record is longer: a page with so much room never gets GPC_PAGE_TOO_SHORT */
@@ -173,7 +176,7 @@ uint64_t gpc_check_query(const uint16_t *query, size_t query_words, uint16_t *ty
  *
  * The listing of an image and a query is the records of all answers, each once, rising. A listing keeps fixed the image and the
  * query's words: its parts, their order, path names, restrictors and patterns. If any of them changes, the listing is another one, and
- * bookmarks of the first mean nothing for it; page, work and report may differ from call to call. */
+ * bookmarks of the first mean nothing for it; sitting, page, work and report may differ from call to call. */
 
 /* Judges whether the given words are a record of the listing of an image and a query.
  *
@@ -184,19 +187,38 @@ uint64_t gpc_check_query(const uint16_t *query, size_t query_words, uint16_t *ty
 uint64_t gpc_judge_record(const uint8_t *image, size_t image_bytes, const uint16_t *query, size_t query_words, const uint16_t *record,
                           size_t record_words, uint16_t *work, size_t work_words, uint8_t *report, size_t report_bytes);
 
+/* A sitting counts lines. Its first 4 bytes are the total of all records placed on pages since it was fresh, a 32-bit number, low byte
+ * first; a fresh sitting is 0 in all four, and no call is needed to begin one. The host keeps it and lends it to each page call, which
+ * raises the total by the records that it places.
+ *   - A sitting goes over calls of any listings: image, query and all else may change from call to call. Begun fresh, and each call lent
+ *     what the one before left, the total after any calls, refused ones among them, is the sum of the counts [2] in the answers given. A
+ *     call that returns 0 gives no answer.
+ *   - The calls of one sitting come one after another. Calls that run side by side need sittings of their own, whose totals the host may
+ *     add up; or the host lets them in one at a time.
+ *   - A total that would pass 4,294,967,295 refuses the page (34). Note the total, set the 4 bytes to 0 and call again with the same
+ *     bookmark: no record is lost, and none comes twice.
+ *   - A host that needs no total lends 4 bytes that are 0, anew for each call. */
+
 /* Fills a page with the records of the listing that come after a bookmark, in their order, as far as whole records fit.
  *
  * The bookmark is any words; no words stand before every record. Pass the last record of the page before to go on after it: over every
- * list of calls, refused ones among them, the pages then are those of a machine that reads on through the whole listing.
- * Report: [0] and [1] as for the judge, and 23, last, if the next record is longer than the page. Not refused: [2] records on the page,
- * [3] words that they take, [4] 1 if no later record exists, 0 if one does. With 23, [5] is the words that the next record needs;
- * a page with so much room gets it.
+ * list of calls, refused ones among them, and whatever sittings they are lent, the pages then are those of a machine that reads on
+ * through the whole listing.
+ * Report: [0] and [1] as for the judge; then 23, if the next record is longer than the page; then 34, last. Not refused: [2] records on
+ * the page, [3] words that they take, [4] 1 if no later record exists, 0 if one does. With 23, [5] is the words that the next record
+ * needs; a page with so much room is not refused by 23.
+ * 34: the count of the page as full as it can be, added to the sitting's total, is over 4,294,967,295. The count is not cut to what the
+ * total allows, and a page that takes no record never gets 34. All numbers but [0] are then 0.
  * A refusal leaves the page as it was, and so does a page on which no record is placed; words past those reported keep what they held.
- * The work buffer: as for the judge, cleared also after 23. Image, query and bookmark are not changed.
+ * The sitting: not refused, its first 4 bytes are the total that they were plus [2]. A refusal leaves them. Bytes past the first 4 keep
+ * what they held, always. With fewer than 4 bytes the call is as with a report area of fewer than 64: nothing is written, result 0.
+ * The work buffer: as for the judge, cleared also after 23 and 34. Image, query and bookmark are not changed.
+ * Time: where the total is within page_words of 4,294,967,295, the page's records are searched for first to count them, and then again to
+ * place them. Elsewhere they are searched for once, and the sitting costs nothing.
  */
 uint64_t gpc_fill_page(const uint8_t *image, size_t image_bytes, const uint16_t *query, size_t query_words, const uint16_t *bookmark,
-                       size_t bookmark_words, uint16_t *page, size_t page_words, uint16_t *work, size_t work_words, uint8_t *report,
-                       size_t report_bytes);
+                       size_t bookmark_words, uint8_t *sitting, size_t sitting_bytes, uint16_t *page, size_t page_words, uint16_t *work,
+                       size_t work_words, uint8_t *report, size_t report_bytes);
 
 #ifdef __cplusplus
 }

@@ -21,9 +21,10 @@ struct nodes {
 static struct nodes list(const uint16_t *words, size_t count)
 {
     static uint16_t work[GPC_WORK_WORDS];
-    uint8_t report[GPC_REPORT_BYTES];
+    uint8_t report[GPC_REPORT_BYTES], sitting[GPC_SITTING_BYTES] = {0};
     struct nodes l;
-    gpc_fill_page(image, sizeof image, words, count, NULL, 0, l.record[0], 3 * NODES, work, GPC_WORK_WORDS, report, sizeof report);
+    gpc_fill_page(image, sizeof image, words, count, NULL, 0, sitting, sizeof sitting, l.record[0], 3 * NODES, work, GPC_WORK_WORDS,
+                  report, sizeof report);
     l.count = number(report, GPC_REPORT_RECORDS); /* all of them: the page has room for every node */
     return l;
 }

@@ -48,8 +48,9 @@ int main(void)
     size_t marked = 0;
     gpc_check_query(joined, JOINED_WORDS, types, GPC_TYPE_WORDS, report, sizeof report);
     do {
-        gpc_fill_page(image, sizeof image, joined, JOINED_WORDS, bookmark, marked, page, GPC_MOST_RECORD_WORDS, work, GPC_WORK_WORDS,
-                      report, sizeof report);
+        uint8_t sitting[GPC_SITTING_BYTES] = {0};
+        gpc_fill_page(image, sizeof image, joined, JOINED_WORDS, bookmark, marked, sitting, sizeof sitting, page, GPC_MOST_RECORD_WORDS,
+                      work, GPC_WORK_WORDS, report, sizeof report);
         if (number(report, GPC_REPORT_REFUSAL) != 0)
             return 1; /* not 23: any record fits on this page */
         marked = take_page(number(report, GPC_REPORT_RECORDS));

@@ -23,7 +23,9 @@ int main(void)
     size_t room = 24, marked = 0;
     gpc_check_query(query, QUERY_WORDS, types, GPC_TYPE_WORDS, report, sizeof report);
     do {
-        gpc_fill_page(image, sizeof image, query, QUERY_WORDS, bookmark, marked, page, room, work, GPC_WORK_WORDS, report, sizeof report);
+        uint8_t sitting[GPC_SITTING_BYTES] = {0}; /* no total is kept */
+        gpc_fill_page(image, sizeof image, query, QUERY_WORDS, bookmark, marked, sitting, sizeof sitting, page, room, work, GPC_WORK_WORDS,
+                      report, sizeof report);
         if (number(report, GPC_REPORT_REFUSAL) == GPC_PAGE_TOO_SHORT) {
             room = number(report, GPC_REPORT_NEEDED); /* never above GPC_MOST_RECORD_WORDS */
             printf("(the next record needs %d words)\n", (int)room);

@@ -1,17 +1,18 @@
-/* Two listings side by side, each on a thread with a stack and memory of its own. */
+/* Two listings side by side, each on a thread with a stack and memory of its own, the sitting too. */
 #include <pthread.h>
 
 #include "host.h"
 
 struct task {
     uint16_t query[QUERY_WORDS], page[256], work[GPC_WORK_WORDS];
-    uint8_t report[GPC_REPORT_BYTES];
+    uint8_t report[GPC_REPORT_BYTES], sitting[GPC_SITTING_BYTES];
 };
 
 static void *run(void *of)
 {
     struct task *t = of;
-    gpc_fill_page(image, sizeof image, t->query, QUERY_WORDS, NULL, 0, t->page, 256, t->work, GPC_WORK_WORDS, t->report, sizeof t->report);
+    gpc_fill_page(image, sizeof image, t->query, QUERY_WORDS, NULL, 0, t->sitting, sizeof t->sitting, t->page, 256, t->work,
+                  GPC_WORK_WORDS, t->report, sizeof t->report);
     return NULL;
 }
 

@@ -24,8 +24,9 @@ struct field {
     uint8_t *memory;
 };
 
-/* The fields of one call. The first ones, as many as are fixed, serve every call of the case. */
+/* The fields of one call. The first ones, as many as are fixed, serve every call of the case; there may be none. */
 struct sample {
+    size_t calls;
     size_t count;
     size_t fixed;
     struct field fields[MOST_FIELDS];
@@ -39,7 +40,7 @@ static void die(const char *what) {
 static int is_number(const char *name) { return strcmp(name, "result") == 0; }
 
 static size_t width_of(const char *name) {
-    return strncmp(name, "image", 5) == 0 || strncmp(name, "report", 6) == 0 ? 1 : 2;
+    return strncmp(name, "image", 5) == 0 || strncmp(name, "sitting", 7) == 0 || strncmp(name, "report", 6) == 0 ? 1 : 2;
 }
 
 static uint8_t guard_byte(size_t i) { return (uint8_t)(0xa5 ^ (i * 29)); }
@@ -158,8 +159,9 @@ static uint64_t call(struct sample *s, int null) {
                                 lent(s, "report", null), items(s, "report"));
     if (find(s, "bookmark") != NULL)
         return gpc_fill_page(lent(s, "image", null), items(s, "image"), lent(s, "query", null), items(s, "query"),
-                             lent(s, "bookmark", null), items(s, "bookmark"), lent(s, "page", null), items(s, "page"),
-                             lent(s, "work", null), items(s, "work"), lent(s, "report", null), items(s, "report"));
+                             lent(s, "bookmark", null), items(s, "bookmark"), lent(s, "sitting", null), items(s, "sitting"),
+                             lent(s, "page", null), items(s, "page"), lent(s, "work", null), items(s, "work"),
+                             lent(s, "report", null), items(s, "report"));
     return gpc_read_image(lent(s, "image", null), items(s, "image"), lent(s, "report", null), items(s, "report"));
 }
 
@@ -205,12 +207,13 @@ static void end_case(const char *sort, const char *name, struct sample *s, int g
     t->failed += !good;
     if (!good && t->failed <= MOST_SHOWN) printf("differs: %s case %s\n", sort, name);
     forget(s, 0);
+    s->calls = 0;
     s->fixed = 0;
 }
 
 /* A line "call K": what came before the first one is fixed, and a call before another one is complete. */
 static int next_call(struct sample *s, const struct tally *t) {
-    if (s->fixed == 0) {
+    if (s->calls++ == 0) {
         s->fixed = s->count;
         return 1;
     }

@@ -15,7 +15,7 @@ static size_t image_bytes;
 static uint16_t query[1 + 3 * PARTS + 5 * ROWS * PARTS];
 static uint16_t work[GPC_WORK_WORDS], rec[GPC_WORK_WORDS], page[GPC_WORK_WORDS];
 static size_t rec_words;
-static uint8_t report[GPC_REPORT_BYTES];
+static uint8_t report[GPC_REPORT_BYTES], sitting[GPC_SITTING_BYTES];
 
 static void put(uint16_t v)
 {
@@ -94,12 +94,13 @@ static void make_record(void)
         put_path();
 }
 
-/* A page of no words is a call to judge. */
+/* A page of no words is a call to judge. How many lines the sitting has left, and the number by which the call must be refused. */
 struct call {
     const char *name;
     uint16_t restrictor;
     size_t page_words;
-    uint64_t result;
+    uint32_t lines_left;
+    uint64_t refusal;
 };
 
 static uint64_t reported(int i)
@@ -110,16 +111,22 @@ static uint64_t reported(int i)
     return v;
 }
 
-/* A page's call begins just before the record and has no room for it, so that it ends there. */
+static void set_sitting(uint32_t total)
+{
+    for (int k = 0; k < GPC_SITTING_BYTES; k++)
+        sitting[k] = (uint8_t)(total >> 8 * k);
+}
+
+/* A page's call begins just before the record and has room for it alone, or not even for it, so that it ends there. */
 static void *run(void *arg)
 {
-    struct call *c = arg;
+    const struct call *c = arg;
     size_t query_words = sizeof query / sizeof *query;
     if (c->page_words == 0)
-        c->result = gpc_judge_record(image, image_bytes, query, query_words, rec, rec_words, work, GPC_WORK_WORDS, report, sizeof report);
+        gpc_judge_record(image, image_bytes, query, query_words, rec, rec_words, work, GPC_WORK_WORDS, report, sizeof report);
     else
-        c->result = gpc_fill_page(image, image_bytes, query, query_words, rec, rec_words - 2, page, c->page_words, work,
-                                  GPC_WORK_WORDS, report, sizeof report);
+        gpc_fill_page(image, image_bytes, query, query_words, rec, rec_words - 2, sitting, sizeof sitting, page, c->page_words, work,
+                      GPC_WORK_WORDS, report, sizeof report);
     return NULL;
 }
 
@@ -130,6 +137,7 @@ static size_t used_by(struct call *c)
     pthread_t thread;
     size_t i = 0;
     memset(stack, PAINT, STACK);
+    set_sitting(UINT32_MAX - c->lines_left);
     pthread_attr_init(&attr);
     if (pthread_attr_setstack(&attr, stack, STACK) || pthread_create(&thread, &attr, run, c) || pthread_join(thread, NULL))
         exit(2);
@@ -139,22 +147,28 @@ static size_t used_by(struct call *c)
     return STACK - i;
 }
 
-/* Judged a record, or needing its words. */
+/* Judged a record or placed on the page, needing its words, or refused for the total. */
 static int as_expected(const struct call *c)
 {
-    return c->page_words == 0 ? reported(2) == 1 : reported(0) == GPC_PAGE_TOO_SHORT && reported(5) == rec_words;
+    uint64_t found = c->refusal == GPC_ACCEPTED, needed = c->refusal == GPC_PAGE_TOO_SHORT ? rec_words : 0;
+    return reported(0) == c->refusal && reported(2) == found && reported(5) == needed;
 }
 
 int main(void)
 {
-    /* A small page, and one that lacks a single word for the record. */
+    /* A small page, and one that lacks a single word for the record. Then a sitting near its end, where a page is searched for twice; with
+     * room for the record only of the shortest, since to look for a trail after it would take a minute. */
+    const uint32_t fresh = UINT32_MAX;
     struct call calls[] = {
-        {"judge a record, trail", GPC_TRAIL, 0, 0},
-        {"judge a record, shortest trail", GPC_SHORTEST_TRAIL, 0, 0},
-        {"fill a page of 1024, trail", GPC_TRAIL, 1024, 0},
-        {"fill a page of 1024, shortest trail", GPC_SHORTEST_TRAIL, 1024, 0},
-        {"fill a large page, trail", GPC_TRAIL, GPC_MOST_RECORD_WORDS - 1, 0},
-        {"fill a large page, shortest trail", GPC_SHORTEST_TRAIL, GPC_MOST_RECORD_WORDS - 1, 0},
+        {"judge a record, trail", GPC_TRAIL, 0, fresh, GPC_ACCEPTED},
+        {"judge a record, shortest trail", GPC_SHORTEST_TRAIL, 0, fresh, GPC_ACCEPTED},
+        {"fill a page of 1024, trail", GPC_TRAIL, 1024, fresh, GPC_PAGE_TOO_SHORT},
+        {"fill a page of 1024, shortest trail", GPC_SHORTEST_TRAIL, 1024, fresh, GPC_PAGE_TOO_SHORT},
+        {"fill a large page, trail", GPC_TRAIL, GPC_MOST_RECORD_WORDS - 1, fresh, GPC_PAGE_TOO_SHORT},
+        {"fill a large page, shortest trail", GPC_SHORTEST_TRAIL, GPC_MOST_RECORD_WORDS - 1, fresh, GPC_PAGE_TOO_SHORT},
+        {"fill a large page at a sitting's end, trail", GPC_TRAIL, GPC_MOST_RECORD_WORDS - 1, 0, GPC_PAGE_TOO_SHORT},
+        {"fill a page with a sitting's last line, shortest trail", GPC_SHORTEST_TRAIL, GPC_MOST_RECORD_WORDS, 1, GPC_ACCEPTED},
+        {"refuse the line after it, shortest trail", GPC_SHORTEST_TRAIL, GPC_MOST_RECORD_WORDS, 0, GPC_SITTING_OVERRUN},
     };
     size_t most = 0;
     make_cycle();

@@ -38,8 +38,8 @@ CALLS = {
     "records": (JUDGE, "{image} {query} {record} {work} {report}", ["work", "report"]),
     "pages": (
         FILL,
-        "{image} {query} {bookmark} (record {{ page = {page}; work = {work}; report = {report} }})",
-        ["page", "work", "report"],
+        "{image} {query} {bookmark} (record {{ sitting = {sitting}; page = {page}; work = {work}; report = {report} }})",
+        ["sitting", "page", "work", "report"],
     ),
 }
 # Cases of conditions judge a record or fill a page.
@@ -47,6 +47,8 @@ SORTS = [*CALLS, "conditions"]
 MOST = {"image": 110, "query": 80, "page": 250, "record": 250, "bookmark": 250}
 # Of one listing so many calls at most, so that a run goes over many listings.
 MOST_OF_ONE = 4
+# Of so many page calls one is refused by 34, one is lent a sitting too short, and one carries the total into its second byte.
+ONE_IN = 8
 
 
 def cases(sort, seed, count):
@@ -57,7 +59,7 @@ def cases(sort, seed, count):
 
 def items(name, text):
     """The pieces of a dump, each a value and how often it stands there."""
-    width = 2 if name.startswith(("image", "report")) else 4
+    width = 2 if name.startswith(("image", "sitting", "report")) else 4
     for piece in text.split():
         if "*" in piece:
             item, _, count = piece.partition("*")
@@ -65,6 +67,10 @@ def items(name, text):
         else:
             for at in range(0, len(piece), width):
                 yield int(piece[at : at + width], 16), 1
+
+
+def flat(name, text):
+    return [value for value, count in items(name, text) for _ in range(count)]
 
 
 def size(name, text):
@@ -107,7 +113,7 @@ def small(case):
 
 def depth(case):
     """How many connectives lie around one another in a condition of the first part."""
-    words = [value for value, count in items("query", case["query"]) for _ in range(count)]
+    words = flat("query", case["query"])
     start, depths = 1 + 3 * words[0], []
     for at in range(start, start + words[3], 5):
         kind, p, q = words[at : at + 3]
@@ -116,14 +122,36 @@ def depth(case):
     return max(depths)
 
 
+def past_the_limit(case):
+    return case["result"] == "1" and flat("report", case["report-after"])[:8] == [34, 0, 0, 0, 0, 0, 0, 0]
+
+
+def short_sitting(case):
+    return size("sitting", case["sitting"]) < 4
+
+
+def carried(case):
+    return flat("sitting", case["sitting"])[1:4] != flat("sitting", case["sitting-after"])[1:4]
+
+
+def by_sitting(found, count):
+    """Some calls of each of these sorts, which are rare, then the others as they were drawn."""
+    first = []
+    for sort in past_the_limit, short_sitting, carried:
+        first += [case for case in found if sort(case)][: count // ONE_IN]
+    return first + [case for case in found if case not in first]
+
+
 def kept(sort, seed, count):
-    """Small calls, of which only a few are of one listing; of conditions the deepest."""
+    """Small calls, of which only a few are of one listing; of pages some with each sort of sitting, of conditions the deepest."""
     found, listings = [], Counter()
     for case in cases(sort, seed, 60 * count):
         listing = (case.get("image"), case.get("query"))
         listings[listing] += small(case)
         if small(case) and listings[listing] <= MOST_OF_ONE:
             found.append(case)
+    if sort == "pages":
+        found = by_sitting(found, count)
     if sort == "conditions":
         found.sort(key=depth, reverse=True)
     return found[:count]

@@ -7,7 +7,7 @@ use Prim.Native.Nat.{_*_, _<_, ℕ}
 use native.Mathlib.Omega.{arith}
 use lib.ListN.{length}
 use borrow.Author.Tests.{eqb-true}
-use Rattle.calls.specs.Called.{Called, CalledBy, FilledBy, FilledOn, JudgedOn, PlanOf, PlansOf, isAlone}
+use Rattle.calls.specs.Called.{Called, CalledBy, FilledOn, JudgedOn, PlanOf, PlansOf, WithinBy, WithinOn, isAlone}
 use Rattle.compiled.specs.Copies.{GraphFilled}
 use Rattle.compiled.specs.Derived.{planWords}
 use Rattle.compiled.specs.Parts.{patternIn, restrictorIn}
@@ -29,6 +29,7 @@ use Rattle.meaning.specs.Page.{after}
 use Rattle.meaning.specs.QueryListing.{judgeQuery, queryFixedFault, queryFullListing, queryIn}
 use Rattle.meaning.specs.QueryWords.{Part, badLayout, badRestrictor, partsOf, queryFault}
 use Rattle.meaning.specs.Record.{Record}
+use Rattle.page.specs.Pages.{sheetOf}
 use Rattle.page.specs.declared.state.State.{State}
 use Rattle.parts.specs.Paths.{joined}
 use Rattle.parts.specs.Plans.{AllPlanned, PartPlan, QueryPlanned}
@@ -39,7 +40,8 @@ use Rattle.promises.specs.Walked.{Filled}
 use Rattle.query.proofs.CheckWays.{accepted-fine}
 use Rattle.query.specs.Fine.{Accepted}
 use Rattle.search.proofs.Listings.{full-is}
-use Rattle.search.specs.Sheet.{placeAll, start}
+use Rattle.search.specs.Sheet.{placeAll}
+use Rattle.sitting.specs.declared.total.Sitting.{Sitting}
 
 -- ------------------------------------------------------------------ what is granted
 module _ (image query : List ℕ) (ok : queryFixedFault image query ≡ none) where
@@ -115,8 +117,8 @@ module _ (query graph : List ℕ) (alone : isAlone (partsOf query) ≡ true) (pl
       let ok = sym (one-fault query a one image) ∙ c .granted in
       rw (c .graph-is .is, part-plan .restrictor-is, part-plan .pattern-is) (sym (full-is image (a .words) (a .restrictor) ok)) ∙ sym (one-listing query a one image)
 
-  pub alone-filled : (bookmark page₀ page : List ℕ) (r : State) → Filled graph plan bookmark page₀ page r → FilledOn query graph bookmark page₀ page r
-  alone-filled bookmark page₀ page r f = record { is = λ image c. record { is = f .is ∙ ap (λ (l : List Record). placeAll (start page₀) (after bookmark l)) (alone-listing image c); fine = f .fine } }
+  pub alone-filled : (bookmark page₀ : List ℕ) (st : State) (page : List ℕ) (r : State) → Filled graph plan bookmark page₀ st page r → FilledOn query graph bookmark page₀ st page r
+  alone-filled bookmark page₀ st page r f = record { is = λ image c. record { is = f .is ∙ ap (λ (l : List Record). placeAll (sheetOf page₀ st) (after bookmark l)) (alone-listing image c); fine = f .fine } }
 
   pub alone-judged : (rec : List ℕ) (r : Bool) → Judges graph plan rec r → JudgedOn query graph rec r
   alone-judged rec true j = record { is = λ image c. judged-yes image query (listing (graphIn graph) (restrictorIn plan) (patternIn plan)) (alone-listing image c) rec (j .yes-is refl) }
@@ -147,8 +149,8 @@ module _ (query graph plans : List ℕ) (shape : Shape) (p : PlansOf query graph
   pub join-planned : CalledBy query graph → QueryPlanned graph plans shape
   join-planned c = record { query = partsOf query; planned = all-planned (c .image) (c .called); shape-is = s }
 
-  pub join-filled : (bookmark page₀ page : List ℕ) (r : State) → JoinFilled graph plans bookmark shape page₀ page r → FilledOn query graph bookmark page₀ page r
-  join-filled bookmark page₀ page r f = record { is = λ image c. record { is = f .is (partsOf query) (all-planned image c) s ∙ ap (λ (l : List Record). placeAll (start page₀) (after bookmark l)) (joined-listing image c); fine = f .fine } }
+  pub join-filled : (bookmark page₀ : List ℕ) (st : State) (page : List ℕ) (r : State) → JoinFilled graph plans bookmark shape page₀ st page r → FilledOn query graph bookmark page₀ st page r
+  join-filled bookmark page₀ st page r f = record { is = λ image c. record { is = f .is (partsOf query) (all-planned image c) s ∙ ap (λ (l : List Record). placeAll (sheetOf page₀ st) (after bookmark l)) (joined-listing image c); fine = f .fine } }
 
   pub join-judged : (rec : List ℕ) (r : Bool) → JoinJudges graph plans rec shape r → JudgedOn query graph rec r
   join-judged rec true j = record { is = λ image c. judged-yes image query (joined graph (partsOf query)) (joined-listing image c) rec (j .yes-is refl (partsOf query) (all-planned image c) s) }
@@ -159,8 +161,8 @@ module _ (image query graph : List ℕ) (ok : queryFixedFault image query ≡ no
   called : Called image query graph
   called = record { graph-is = g; granted = ok }
 
-  pub call-filled : (bookmark page₀ page : List ℕ) (r : State) → FilledOn query graph bookmark page₀ page r → FilledBy image query bookmark page₀ page r
-  call-filled bookmark page₀ page r f = f .is image called
+  pub call-filled : (bookmark : List ℕ) (before : Sitting) (page₀ page : List ℕ) (r : State) → WithinOn query graph bookmark before page₀ page r → WithinBy image query bookmark before page₀ page r
+  call-filled bookmark before page₀ page r f = f .is image called
 
   pub call-judged : (rec : List ℕ) (r : Bool) → JudgedOn query graph rec r → r ≡ judgeQuery image query rec
   call-judged rec r j = j .is image called

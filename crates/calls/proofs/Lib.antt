@@ -1,3 +1,4 @@
 pub mod CompileWays
 pub mod CallWays
+pub mod WithinWays
 pub mod PageLeft

@@ -2,8 +2,8 @@
 use mathlib.Core.Path.{_≡_}
 use mathlib.Core.List.{List, [], _++_, _∷_}
 use mathlib.Core.Option.{none}
-use mathlib.Core.Bool.{Bool, false}
-use Prim.Native.Nat.{_<_, _≤_, ℕ}
+use mathlib.Core.Bool.{Bool, false, true}
+use Prim.Native.Nat.{_+_, _<_, _≤_, ℕ}
 use lib.Dec.{eqb}
 use lib.ListN.{getD, length}
 use Rattle.compiled.specs.Copies.{GraphFilled}
@@ -18,7 +18,8 @@ use Rattle.page.specs.declared.state.State.{State}
 use Rattle.parts.specs.Pieces.{piece}
 use Rattle.parts.specs.Plans.{PartPlan}
 use Rattle.plan.specs.Ready.{Ready}
-use Rattle.search.specs.Sheet.{placeAll, start}
+use Rattle.search.specs.Sheet.{Sheet, placeAll, start}
+use Rattle.sitting.specs.declared.total.Sitting.{Sitting}
 use Rattle.typecode.specs.Codes.{codeOf}
 
 -- ------------------------------------------------------------------ what is compiled
@@ -59,14 +60,27 @@ isAlone (a ∷ []) = eqb (a .name) 0
 isAlone (a ∷ b ∷ l) = false
 
 -- ------------------------------------------------------------------ what is promised
--- the records of the full listing after the bookmark are put on the page
-pub record FilledBy (image query bookmark page₀ page : List ℕ) (r : State) : Type 0 where
-  pub is : sheetOf page r ≡ placeAll (start page₀) (after bookmark (queryFullListing image query))
+-- the records of the full listing after the bookmark are put on the page, or counted, from the state st on
+pub record FilledBy (image query bookmark page₀ : List ℕ) (st : State) (page : List ℕ) (r : State) : Type 0 where
+  pub is : sheetOf page r ≡ placeAll (sheetOf page₀ st) (after bookmark (queryFullListing image query))
   pub fine : Fine page r
 
 -- for the image of the graph
-pub record FilledOn (query graph bookmark page₀ page : List ℕ) (r : State) : Type 0 where
-  pub is : (image : List ℕ) → Called image query graph → FilledBy image query bookmark page₀ page r
+pub record FilledOn (query graph bookmark page₀ : List ℕ) (st : State) (page : List ℕ) (r : State) : Type 0 where
+  pub is : (image : List ℕ) → Called image query graph → FilledBy image query bookmark page₀ st page r
+
+-- the page as full as it can be
+abbrev pub fullPage : List ℕ → List ℕ → List ℕ → List ℕ → Sheet
+fullPage image query bookmark page₀ = placeAll (start true page₀) (after bookmark (queryFullListing image query))
+
+-- where the total takes the count the page is filled; where it does not, r has the count of the full page, and the page is as it was
+pub record WithinBy (image query bookmark : List ℕ) (before : Sitting) (page₀ page : List ℕ) (r : State) : Type 0 where
+  pub taken : before .total + r .count ≤ 4294967295 → sheetOf page r ≡ fullPage image query bookmark page₀
+  pub past : 4294967295 < before .total + r .count → (page ≡ page₀) × (r .count ≡ fullPage image query bookmark page₀ .count)
+
+-- for the image of the graph
+pub record WithinOn (query graph bookmark : List ℕ) (before : Sitting) (page₀ page : List ℕ) (r : State) : Type 0 where
+  pub is : (image : List ℕ) → Called image query graph → WithinBy image query bookmark before page₀ page r
 
 -- r tells whether the words are a record of the full listing, for the image of the graph
 pub record JudgedOn (query graph rec : List ℕ) (r : Bool) : Type 0 where

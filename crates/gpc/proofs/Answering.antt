@@ -1,6 +1,6 @@
 -- What each way through the judge's and the page's operation leaves.
 use mathlib.Core.Path.{_≡_, refl, sym, ap, _∙_}
-use mathlib.Core.Bool.{Bool, true, false, not}
+use mathlib.Core.Bool.{Bool, _&&_, true, false, not}
 use mathlib.Core.Option.{none, some}
 use mathlib.Core.List.{List, [], _++_, _∷_}
 use Prim.Native.Nat.{ℕ, zero, suc, _<_, _≤_}
@@ -9,13 +9,14 @@ use native.Mathlib.Omega.{arith}
 use lib.Dec.{ltb}
 use lib.ListN.{drop, length, replicate}
 use borrow.Author.Tests.{le-ltb, leb-true, ltb-false}
-use Rattle.meaning.proofs.Logic.{either, no-false, no-true}
+use Rattle.meaning.proofs.Logic.{and-both, either, no-false, no-true, not-false, not-true}
 use Rattle.meaning.specs.Basics.{firstOf, rowless}
 use Rattle.meaning.specs.Basics.{Cause as Fault}
 use Rattle.meaning.specs.Operations.{JudgeLeft, judgeUnless}
-use Rattle.meaning.specs.Page.{Left, Lent, left}
+use Rattle.meaning.specs.Page.{Left, Lent, answerable, left}
 use Rattle.meaning.specs.QueryListing.{fillPage, fixedBy, judgeQuery, judgeRecord, queryFixedFault}
 use Rattle.meaning.specs.Report.{bit, causeBytes, cleared, over, reportBytes, wideEnough}
+use Rattle.meaning.specs.Sitting.{holdsTotal}
 use Rattle.search.proofs.PageCall.{call-refused, call-unanswered}
 use Rattle.words.specs.Fault.{isRefused, numberOf, rowOf}
 use Rattle.words.proofs.Refusals.{cause-reported}
@@ -108,6 +109,26 @@ begun-short image query work report s e f = record {
   granted-is = λ z. absurd (omega arith);
 }
 
+-- ------------------------------------------------------------------ the sitting
+-- s is the answer of the test whether it is too short
+module _ (sitting : List ℕ) (s : Bool) (told : s ≡ not (holdsTotal sitting)) where
+  held : s ≡ false → holdsTotal sitting ≡ true
+  held long = not-false (holdsTotal sitting) (sym told ∙ long)
+
+  pub on-sitting : s ≡ false → 4 ≤ length sitting
+  unfolding holdsTotal
+  on-sitting long = leb-true 4 (length sitting) (held long)
+
+  pub page-short : s ≡ true → (image query bookmark page work report : List ℕ)
+      → _≡_ {A = Left} (record { result = 0; sitting = sitting; page = page; work = work; report = report }) (fillPage image query bookmark (record { sitting = sitting; page = page; work = work; report = report }))
+  unfolding fillPage fixedBy left answerable
+  page-short h image query bookmark page work report =
+      sym (call-unanswered (fixedBy image query) bookmark (record { sitting = sitting; page = page; work = work; report = report }) (rw (not-true (holdsTotal sitting) (sym told ∙ h)) (go (wideEnough report))))
+    where
+      go : (b : Bool) → (b && false) ≡ false
+      go true = refl
+      go false = refl
+
 -- ------------------------------------------------------------------ how it goes on
 module _ (image query work report₀ report : List ℕ) (k : ℕ) (begun : Begun image query work report₀ report k) where
   -- not refused
@@ -154,27 +175,27 @@ module _ (image query work report₀ report : List ℕ) (k : ℕ) (begun : Begun
         rw (u .0, u .1, le-ltb (length work) 20000 (u .2), j .work-is, j .report-is, u .3) refl
 
   -- ---------------------------------------------------------------- fill a page
-  module _ (bookmark page₀ : List ℕ) where
+  module _ (bookmark sitting page₀ : List ℕ) (s : Bool) (told : s ≡ not (holdsTotal sitting)) (long : s ≡ false) where
     abbrev lent : Lent
-    lent = record { page = page₀; work = work; report = report₀ }
+    lent = record { sitting = sitting; page = page₀; work = work; report = report₀ }
 
-    abbrev answered : ℕ → List ℕ → List ℕ → List ℕ → Left
-    answered r p w d = record { result = r; page = p; work = w; report = d }
+    abbrev answered : ℕ → List ℕ → Left
+    answered r d = record { result = r; sitting = sitting; page = page₀; work = work; report = d }
 
-    page-unanswered : k ≡ 0 → answered k page₀ work report ≡ fillPage image query bookmark lent
-    unfolding fillPage fixedBy left
-    page-unanswered z = let u = begun .unanswered-is z in rw (z, u .1) (sym (call-unanswered (fixedBy image query) bookmark lent (u .0)))
+    page-unanswered : k ≡ 0 → answered k report ≡ fillPage image query bookmark lent
+    unfolding fillPage fixedBy left answerable
+    page-unanswered z = let u = begun .unanswered-is z in rw (z, u .1) (sym (call-unanswered (fixedBy image query) bookmark lent (rw (u .0) refl)))
 
-    page-refused : k ≡ 1 → answered k page₀ work report ≡ fillPage image query bookmark lent
-    unfolding fillPage fixedBy left
-    page-refused z = let u = begun .refused-is z in rw (z, u .1 .2) (sym (call-refused (fixedBy image query) bookmark lent (u .0) (u .1 .0) (u .1 .1)))
+    page-refused : k ≡ 1 → answered k report ≡ fillPage image query bookmark lent
+    unfolding fillPage fixedBy left answerable
+    page-refused z = let u = begun .refused-is z in rw (z, u .1 .2) (sym (call-refused (fixedBy image query) bookmark lent (and-both (u .0) (held sitting s told long)) (u .1 .0) (u .1 .1)))
 
-    pub page-stopped : k < 2 → _≡_ {A = Left} (record { result = k; page = page₀; work = work; report = report }) (fillPage image query bookmark (record { page = page₀; work = work; report = report₀ }))
+    pub page-stopped : k < 2 → _≡_ {A = Left} (record { result = k; sitting = sitting; page = page₀; work = work; report = report }) (fillPage image query bookmark (record { sitting = sitting; page = page₀; work = work; report = report₀ }))
     page-stopped h = either (zero-or-one h) page-unanswered page-refused
 
-    pub page-answered : 2 ≤ k → (r : ℕ) (page work₁ report₁ : List ℕ)
-        → _≡_ {A = Left} (record { result = r; page = page; work = work₁; report = report₁ }) (fillPage image query bookmark (record { page = page₀; work = work; report = report }))
-        → _≡_ {A = Left} (record { result = r; page = page; work = work₁; report = report₁ }) (fillPage image query bookmark (record { page = page₀; work = work; report = report₀ }))
-    page-answered h r page work₁ report₁ e =
-        let z : k ≡ 2 = omega (arith, begun .least) in
-        e ∙ ap (λ (d : List ℕ). fillPage image query bookmark (record { page = page₀; work = work; report = d })) (begun .granted-is z .3)
+  pub page-answered : (bookmark sitting page₀ : List ℕ) → 2 ≤ k → (r : ℕ) (sitting₁ page work₁ report₁ : List ℕ)
+      → _≡_ {A = Left} (record { result = r; sitting = sitting₁; page = page; work = work₁; report = report₁ }) (fillPage image query bookmark (record { sitting = sitting; page = page₀; work = work; report = report }))
+      → _≡_ {A = Left} (record { result = r; sitting = sitting₁; page = page; work = work₁; report = report₁ }) (fillPage image query bookmark (record { sitting = sitting; page = page₀; work = work; report = report₀ }))
+  page-answered bookmark sitting page₀ h r sitting₁ page work₁ report₁ e =
+      let z : k ≡ 2 = omega (arith, begun .least) in
+      e ∙ ap (λ (d : List ℕ). fillPage image query bookmark (record { sitting = sitting; page = page₀; work = work; report = d })) (begun .granted-is z .3)

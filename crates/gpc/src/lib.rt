@@ -121,21 +121,25 @@ pub extern "C" fn gpc_judge_record(
     1
 }
 
-// 01, 'Fill a page'.
+// 01, 'Fill a page', with the sitting of 02, Q-3.
 #[no_mangle]
 pub extern "C" fn gpc_fill_page(
     image: &[u8],
     query: &[u16],
     bookmark: &[u16],
+    sitting: &mut [u8],
     page: &mut [u16],
     work: &mut [u16],
     report: &mut [u8],
 ) -> u64
-    ensures { λ r. ⌜ _≡_ {A = Left} (record { result = r; page = now (page .exit); work = now (work .exit); report = now (report .exit) }) (fillPage (now (image .entry)) (now (query .entry)) (now (bookmark .entry)) (record { page = now (page .entry); work = now (work .entry); report = now (report .entry) })) ⌝ }
+    ensures { λ r. ⌜ _≡_ {A = Left} (record { result = r; sitting = now (sitting .exit); page = now (page .exit); work = now (work .exit); report = now (report .exit) }) (fillPage (now (image .entry)) (now (query .entry)) (now (bookmark .entry)) (record { sitting = now (sitting .entry); page = now (page .entry); work = now (work .entry); report = now (report .entry) })) ⌝ }
 {
+    if sitting::is_short(sitting) {
+        return 0;
+    }
     let begun = begin(image, query, work, report);
     if begun < 2 {
         return begun;
     }
-    calls::fill_page(image, query, bookmark, page, work, report)
+    calls::fill_page(image, query, bookmark, sitting, page, work, report)
 }

@@ -13,9 +13,10 @@ use Rattle.meaning.proofs.Opened.{opened}
 use Rattle.meaning.proofs.Pages.{printedRecords}
 use Rattle.meaning.specs.Basics.{All, Cause, firstOf, if_then_else_, keep, only, rowless}
 use Rattle.meaning.specs.Listing.{Before}
-use Rattle.meaning.specs.Page.{Lent, Outcome, filled, fit, join, needs, outcome, printing, unanswered, unlessFault}
+use Rattle.meaning.specs.Page.{Lent, Outcome, answerable, filled, fit, join, needs, outcome, overrun, printed, printing, refused, unanswered, unlessFault, unlessOverrun}
 use Rattle.meaning.specs.Record.{Record}
-use Rattle.meaning.specs.Report.{digits, reportBytes, reported, undigits, wideEnough}
+use Rattle.meaning.specs.Report.{digits, reportBytes, reported, undigits}
+use Rattle.meaning.specs.Sitting.{carriesPast}
 
 pub digits-read : (n x : ℕ) → x < 256 ^ n → undigits (digits n x) ≡ x
 unfolding opened printedRecords
@@ -54,7 +55,7 @@ Few n o = length (join (printedRecords o)) ≤ n
 
 pub outcome-words : (fault : Cause) (c : Lent) (rest : List Record) → length (join (printedRecords (outcome fault c rest))) ≤ length (c .page)
 unfolding opened printedRecords
-outcome-words fault c rest = go (wideEnough (c .report))
+outcome-words fault c rest = go (answerable c)
   where
     fills : (l : List Record) → Few (length (c .page)) (filled (length (c .page)) l)
     fills [] = omega arith
@@ -64,11 +65,22 @@ outcome-words fault c rest = go (wideEnough (c .report))
         if-fits true = fit-words (length (c .page)) (r ∷ l)
         if-fits false = omega arith
 
-    unless : (f : Cause) → Few (length (c .page)) (unlessFault f (filled (length (c .page)) rest))
-    unless none = fills rest
+    unless-past : (o : Outcome) → Few (length (c .page)) o → Few (length (c .page)) (unlessOverrun (c .sitting) o)
+    unless-past unanswered h = h
+    unless-past (refused f) h = h
+    unless-past (needs n) h = h
+    unless-past overrun h = h
+    unless-past (printed rs done) h = if-past (carriesPast (length rs) (c .sitting))
+      where
+        if-past : (b : Bool) → Few (length (c .page)) (if b then overrun else printed rs done)
+        if-past true = omega arith
+        if-past false = h
+
+    unless : (f : Cause) → Few (length (c .page)) (unlessFault f (unlessOverrun (c .sitting) (filled (length (c .page)) rest)))
+    unless none = unless-past (filled (length (c .page)) rest) (fills rest)
     unless (some f) = omega arith
 
-    go : (b : Bool) → Few (length (c .page)) (if b then unlessFault (firstOf fault (rowless 22 (ltb (length (c .work)) 20000))) (filled (length (c .page)) rest) else unanswered)
+    go : (b : Bool) → Few (length (c .page)) (if b then unlessFault (firstOf fault (rowless 22 (ltb (length (c .work)) 20000))) (unlessOverrun (c .sitting) (filled (length (c .page)) rest)) else unanswered)
     go true = unless (firstOf fault (rowless 22 (ltb (length (c .work)) 20000)))
     go false = omega arith
 

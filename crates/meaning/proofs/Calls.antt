@@ -18,7 +18,7 @@ use Rattle.meaning.proofs.QueryReading.{ReadBy, records-by}
 use Rattle.meaning.specs.Basics.{All, each}
 use Rattle.meaning.specs.Listing.{Before, Sorted, before}
 use Rattle.meaning.specs.Machine.{Turn, andThen, isDone, lastOr, plainRun, printedCount}
-use Rattle.meaning.specs.Page.{Left, Lent, Outcome, after, join, left, needs, outcome, printed, refused, unanswered}
+use Rattle.meaning.specs.Page.{Left, Lent, Outcome, after, join, left, needs, outcome, overrun, printed, refused, unanswered}
 use Rattle.meaning.specs.QueryListing.{Fixed, fixedBy, hostCallsOf, hostOf, machineOf, pageOf, queryFullListing, recordsBy, recordsOn, recordsShown, untilDone}
 use Rattle.meaning.specs.Record.{Record}
 use Rattle.meaning.specs.Report.{bit}
@@ -41,6 +41,7 @@ module _ (F : Fixed) (proper : Proper F) where
   page-shows c unanswered h = refl
   page-shows c (refused x) h = refl
   page-shows c (needs n) h = refl
+  page-shows c overrun h = refl
   page-shows c (printed rs done) h = records-by (F .size) rs h (drop (length (join rs)) (c .page))
 
   -- the records printed by a call that has `rest` left stand on its page
@@ -135,6 +136,7 @@ module _ (F : Fixed) (proper : Proper F) where
   shown-is c unanswered h = refl
   shown-is c (refused f) h = refl
   shown-is c (needs n) h = refl
+  shown-is c overrun h = refl
   shown-is c (printed rs done) h = ap (λ (k : ℕ). recordsBy (F .size) k (join rs ++ drop (length (join rs)) (c .page))) (reported-count 0 0 (length rs) (length (join rs)) (bit done) 0 (drop 64 (c .report)) h)
 
   few-records : (c : Lent) (bookmark : List ℕ) → length (c .page) < 256 ^ 8 → length (printedRecords (pageOf F bookmark c .outcome)) < 256 ^ 8

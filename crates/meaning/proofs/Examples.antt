@@ -55,13 +55,13 @@ P = 2 ∷ 1 ∷ 0 ∷ 0 ∷ 0 ∷ 8 ∷ 0 ∷ 0 ∷ 1 ∷ 65535 ∷ []
 abbrev both-ways : List ℕ
 both-ways = 2 ∷ 1 ∷ 0 ∷ 0 ∷ 0 ∷ 3 ∷ 1 ∷ 0 ∷ 0 ∷ 0 ∷ 5 ∷ 0 ∷ 1 ∷ 0 ∷ 0 ∷ []
 
--- a call with a page of n words and a report of 64 bytes, all with other contents before
+-- a call with a fresh sitting, a page of n words and a report of 64 bytes, all but the sitting with other contents before
 abbrev pub page-of : ℕ → Lent
-page-of n = record { page = replicate n 9; work = replicate 20000 3; report = replicate 64 5 }
+page-of n = record { sitting = replicate 4 0; page = replicate n 9; work = replicate 20000 3; report = replicate 64 5 }
 
--- a call that filled its page: the report's numbers and the page
+-- a call that filled its page: the report's numbers, the page, and the lines of the sitting
 abbrev pub fills : ℕ → ℕ → ℕ → List ℕ → Left
-fills count used done page = record { result = 1; page = page; work = replicate 20000 0; report = reportBytes 0 0 count used done 0 }
+fills count used done page = record { result = 1; sitting = count ∷ replicate 3 0; page = page; work = replicate 20000 0; report = reportBytes 0 0 count used done 0 }
 
 -- an example of which only the listing is told: one call with a page that holds it shows the same
 abbrev lists-only : List ℕ → List ℕ → ℕ → List Record → Example
@@ -70,7 +70,7 @@ lists-only image pattern n records =
 
 abbrev refuses-only : List ℕ → ℕ → ℕ → Example
 refuses-only pattern number row =
-    record { image = T; query = alone 1 pattern; listing-is = refuses number row; calls = page-of 40 ∷ []; leaves = record { result = 1; page = replicate 40 9; work = replicate 20000 3; report = reportBytes number row 0 0 0 0 } ∷ [] }
+    record { image = T; query = alone 1 pattern; listing-is = refuses number row; calls = page-of 40 ∷ []; leaves = record { result = 1; sitting = replicate 4 0; page = replicate 40 9; work = replicate 20000 3; report = reportBytes number row 0 0 0 0 } ∷ [] }
 
 abbrev pub examples : List Example
 examples =
@@ -83,7 +83,7 @@ examples =
       leaves =
           fills 1 10 0 (1 ∷ 0 ∷ 0 ∷ 1 ∷ 1 ∷ 1 ∷ 0 ∷ 0 ∷ 1 ∷ 0 ∷ [])
           ∷ fills 1 10 0 (1 ∷ 1 ∷ 1 ∷ 2 ∷ 1 ∷ 1 ∷ 1 ∷ 1 ∷ 2 ∷ 1 ∷ [])
-          ∷ record { result = 1; page = replicate 10 9; work = replicate 20000 0; report = reportBytes 23 0 0 0 0 17 }
+          ∷ record { result = 1; sitting = replicate 4 0; page = replicate 10 9; work = replicate 20000 0; report = reportBytes 23 0 0 0 0 17 }
           ∷ [];
     }
     -- no nodes: done, count 0

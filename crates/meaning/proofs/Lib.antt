@@ -52,6 +52,8 @@ pub mod QueryReading
 pub mod QuerySize
 pub mod QueryGranted
 pub mod Calls
+pub mod Sittings
+pub mod SittingExamples
 pub mod OnePart
 pub mod OnePartRead
 pub mod QueryTold

@@ -10,14 +10,15 @@ use Rattle.meaning.proofs.Logic.{no-false}
 use Rattle.meaning.proofs.Opened.{opened}
 use Rattle.meaning.specs.Basics.{Cause, firstOf, if_then_else_, rowless}
 use Rattle.meaning.specs.Machine.{isDone, printedCount}
-use Rattle.meaning.specs.Page.{Lent, Outcome, filled, fit, isEmpty, needs, outcome, printed, printing, refused, unanswered, unlessFault}
+use Rattle.meaning.specs.Page.{Lent, Outcome, filled, fit, answerable, isEmpty, needs, outcome, overrun, printed, printing, refused, unanswered, unlessFault, unlessOverrun}
 use Rattle.meaning.specs.Record.{Record}
-use Rattle.meaning.specs.Report.{wideEnough}
+use Rattle.meaning.specs.Sitting.{carriesPast}
 
 unfoldable pub printedRecords : Outcome → List Record
 printedRecords unanswered = []
 printedRecords (refused c) = []
 printedRecords (needs n) = []
+printedRecords overrun = []
 printedRecords (printed rs done) = rs
 
 pub count-is : (o : Outcome) → printedCount o ≡ length (printedRecords o)
@@ -25,6 +26,7 @@ unfolding opened printedRecords
 count-is unanswered = refl
 count-is (refused c) = refl
 count-is (needs n) = refl
+count-is overrun = refl
 count-is (printed rs done) = refl
 
 -- ------------------------------------------------------------------ a beginning of what is left
@@ -49,17 +51,29 @@ filled-begins n (r ∷ l) = go (leb (length r) n)
     go true = fit-prefix n (r ∷ l)
     go false = refl
 
-unless-begins : (c : Cause) (n : ℕ) (rest : List Record) → Begins (unlessFault c (filled n rest)) rest
+overrun-begins : (s : List ℕ) (o : Outcome) (rest : List Record) → Begins o rest → Begins (unlessOverrun s o) rest
 unfolding opened printedRecords
-unless-begins none n rest = filled-begins n rest
-unless-begins (some f) n rest = refl
+overrun-begins s unanswered rest h = h
+overrun-begins s (refused c) rest h = h
+overrun-begins s (needs n) rest h = h
+overrun-begins s overrun rest h = h
+overrun-begins s (printed rs done) rest h = go (carriesPast (length rs) s)
+  where
+    go : (b : Bool) → Begins (if b then overrun else printed rs done) rest
+    go true = refl
+    go false = h
+
+unless-begins : (c : Cause) (o : Outcome) (rest : List Record) → Begins o rest → Begins (unlessFault c o) rest
+unfolding opened printedRecords
+unless-begins none o rest h = h
+unless-begins (some f) o rest h = refl
 
 pub outcome-begins : (fault : Cause) (c : Lent) (rest : List Record) → printedRecords (outcome fault c rest) ++ drop (length (printedRecords (outcome fault c rest))) rest ≡ rest
 unfolding opened printedRecords
-outcome-begins fault c rest = go (wideEnough (c .report))
+outcome-begins fault c rest = go (answerable c)
   where
-    go : (b : Bool) → Begins (if b then unlessFault (firstOf fault (rowless 22 (ltb (length (c .work)) 20000))) (filled (length (c .page)) rest) else unanswered) rest
-    go true = unless-begins (firstOf fault (rowless 22 (ltb (length (c .work)) 20000))) (length (c .page)) rest
+    go : (b : Bool) → Begins (if b then unlessFault (firstOf fault (rowless 22 (ltb (length (c .work)) 20000))) (unlessOverrun (c .sitting) (filled (length (c .page)) rest)) else unanswered) rest
+    go true = unless-begins (firstOf fault (rowless 22 (ltb (length (c .work)) 20000))) (unlessOverrun (c .sitting) (filled (length (c .page)) rest)) rest (overrun-begins (c .sitting) (filled (length (c .page)) rest) rest (filled-begins (length (c .page)) rest))
     go false = refl
 
 -- ------------------------------------------------------------------ done: all of what is left
@@ -83,15 +97,27 @@ filled-done n (r ∷ l) = go (leb (length r) n)
     go true = λ e. empty-drop (fit n (r ∷ l)) (r ∷ l) (fit-prefix n (r ∷ l)) e
     go false = λ e. no-false e
 
-unless-done : (c : Cause) (n : ℕ) (rest : List Record) → All-if-done (unlessFault c (filled n rest)) rest
+overrun-done : (s : List ℕ) (o : Outcome) (rest : List Record) → All-if-done o rest → All-if-done (unlessOverrun s o) rest
 unfolding opened printedRecords
-unless-done none n rest = filled-done n rest
-unless-done (some f) n rest = λ e. no-false e
+overrun-done s unanswered rest h = h
+overrun-done s (refused c) rest h = h
+overrun-done s (needs n) rest h = h
+overrun-done s overrun rest h = h
+overrun-done s (printed rs done) rest h = go (carriesPast (length rs) s)
+  where
+    go : (b : Bool) → All-if-done (if b then overrun else printed rs done) rest
+    go true = λ e. no-false e
+    go false = h
+
+unless-done : (c : Cause) (o : Outcome) (rest : List Record) → All-if-done o rest → All-if-done (unlessFault c o) rest
+unfolding opened printedRecords
+unless-done none o rest h = h
+unless-done (some f) o rest h = λ e. no-false e
 
 pub outcome-done : (fault : Cause) (c : Lent) (rest : List Record) → isDone (outcome fault c rest) ≡ true → printedRecords (outcome fault c rest) ≡ rest
 unfolding opened printedRecords
-outcome-done fault c rest = go (wideEnough (c .report))
+outcome-done fault c rest = go (answerable c)
   where
-    go : (b : Bool) → All-if-done (if b then unlessFault (firstOf fault (rowless 22 (ltb (length (c .work)) 20000))) (filled (length (c .page)) rest) else unanswered) rest
-    go true = unless-done (firstOf fault (rowless 22 (ltb (length (c .work)) 20000))) (length (c .page)) rest
+    go : (b : Bool) → All-if-done (if b then unlessFault (firstOf fault (rowless 22 (ltb (length (c .work)) 20000))) (unlessOverrun (c .sitting) (filled (length (c .page)) rest)) else unanswered) rest
+    go true = unless-done (firstOf fault (rowless 22 (ltb (length (c .work)) 20000))) (unlessOverrun (c .sitting) (filled (length (c .page)) rest)) rest (overrun-done (c .sitting) (filled (length (c .page)) rest) rest (filled-done (length (c .page)) rest))
     go false = λ e. no-false e

@@ -133,7 +133,7 @@ cycle = low-first (16 ∷ 6 ∷ 22 ∷ 18 ∷ 40 ∷ 0 ∷ 40 ∷ 0 ∷ 10 ∷ 2
 
 -- a page of n words, a work area of w words, a report of b bytes
 abbrev lent : ℕ → ℕ → ℕ → Lent
-lent n w b = record { page = replicate n 9; work = replicate w 3; report = replicate b 5 }
+lent n w b = record { sitting = replicate 4 0; page = replicate n 9; work = replicate w 3; report = replicate b 5 }
 
 -- what the calls report: nothing, or the numbers 0 to 5
 abbrev numbers-of : Turn → List ℕ

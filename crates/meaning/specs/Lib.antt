@@ -13,6 +13,7 @@ pub mod Image
 pub mod Table
 pub mod FullListing
 pub mod Report
+pub mod Sitting
 pub mod Page
 pub mod Machine
 pub mod Operations
@@ -21,3 +22,4 @@ pub mod Joins
 pub mod QueryRecord
 pub mod QueryWords
 pub mod QueryListing
+pub mod Lines

@@ -5,7 +5,7 @@ use mathlib.Core.Bool.{Bool, false}
 use Prim.Native.Nat.{_+_, ℕ}
 use lib.ListN.{drop, length}
 use Rattle.meaning.specs.Basics.{Cause}
-use Rattle.meaning.specs.Page.{Left, Lent, Outcome, left, needs, outcome, printed, refused, unanswered}
+use Rattle.meaning.specs.Page.{Left, Lent, Outcome, left, needs, outcome, overrun, printed, refused, unanswered}
 use Rattle.meaning.specs.Record.{Record}
 
 -- what is compared for each call: refused or not and all that is reported, and what is left in memory
@@ -18,6 +18,7 @@ unfoldable pub printedCount : Outcome → ℕ
 printedCount unanswered = 0
 printedCount (refused c) = 0
 printedCount (needs n) = 0
+printedCount overrun = 0
 printedCount (printed rs done) = length rs
 
 -- the plain machine: it holds the full listing and the number k of records printed so far, and is fed with all but the bookmark
@@ -40,6 +41,7 @@ unfoldable pub isDone : Outcome → Bool
 isDone unanswered = false
 isDone (refused c) = false
 isDone (needs n) = false
+isDone overrun = false
 isDone (printed rs done) = done
 
 unfoldable pub andThen : List Record → Option (List Record) → Option (List Record)

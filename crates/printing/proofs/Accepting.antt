@@ -11,7 +11,7 @@ use borrow.Author.Tests.{le-leb, le-ltb}
 use Rattle.meaning.proofs.Accepted.{Accepted}
 use Rattle.meaning.proofs.Causes.{first-none}
 use Rattle.meaning.proofs.Granted.{pattern-accepted}
-use Rattle.meaning.proofs.Logic.{no-none, some-inj}
+use Rattle.meaning.proofs.Logic.{and-both, no-none, some-inj}
 use Rattle.meaning.proofs.OnePart.{Alone, alone-is, one-check, one-query}
 use Rattle.meaning.proofs.OnePartRead.{one-size}
 use Rattle.meaning.proofs.QueryTold.{query-types-length}
@@ -19,13 +19,14 @@ use Rattle.meaning.specs.Answer.{Restrictor, restrictorOf}
 use Rattle.meaning.specs.Basics.{Cause, atRow, firstOf, rowless}
 use Rattle.meaning.specs.Image.{imageFault, rowFault}
 use Rattle.meaning.specs.Operations.{CheckLeft}
-use Rattle.meaning.specs.Page.{Left, Lent, left, refused}
+use Rattle.meaning.specs.Page.{Left, Lent, answerable, left, refused}
 use Rattle.meaning.specs.Pattern.{Pattern}
 use Rattle.meaning.specs.Query.{Query, unnamed}
 use Rattle.meaning.specs.QueryListing.{checkQuery, fixedBy, pageOf, queryFixedFault, queryIn, typesOrZeros}
 use Rattle.meaning.specs.QueryRecord.{queryRecordSize}
 use Rattle.meaning.specs.QueryWords.{Part, badRestrictor, partsFault, partsOf, queryFault, queryTypeWords}
 use Rattle.meaning.specs.Report.{causeBytes, over, reported, wideEnough}
+use Rattle.meaning.specs.Sitting.{holdsTotal}
 use Rattle.meaning.specs.Table.{patternFault, patternOf, rowCause, tableFault}
 use Rattle.meaning.specs.Typing.{typeOf}
 use Rattle.search.proofs.PageCall.{call-refused}
@@ -91,8 +92,8 @@ module _ (image query : List ℕ) where
   first-some c f e = ap (λ (x : Cause). firstOf x (rowless 22 (ltb (length (c .work)) 20000))) e
 
   refusal-is : (bookmark : List ℕ) (c : Lent) (f : ℕ × ℕ) → Roomy c → queryFixedFault image query ≡ some f → pageOf (fixedBy image query) bookmark c .left ≡ left c (refused f)
-  unfolding wideEnough
-  refusal-is bookmark c f r e = call-refused (fixedBy image query) bookmark c (le-leb 64 (length (c .report)) (omega (arith, r .report))) f (first-some c f e)
+  unfolding answerable wideEnough holdsTotal
+  refusal-is bookmark c f r e = call-refused (fixedBy image query) bookmark c (rw (r .fresh) (and-both (le-leb 64 (length (c .report)) (omega (arith, r .report))) refl)) f (first-some c f e)
 
   pub no-fault : (page report : List ℕ) → First image query page report → queryFixedFault image query ≡ none
   no-fault page report h = go (queryFixedFault image query) refl

@@ -5,6 +5,7 @@ use mathlib.Core.Bool.{Bool, false, true}
 use mathlib.Core.Option.{none}
 use Prim.Native.Nat.{_%_, _+_, _-_, _<_, _^_, _≤_, suc, ℕ}
 use native.Mathlib.Omega.{arith}
+use lib.Dec.{leb}
 use lib.ListN.{drop, length, length-append, length-replicate, replicate, take}
 use lib.Seq.{drop-nil}
 use borrow.Author.Tests.{le-leb, le-ltb}
@@ -15,16 +16,17 @@ use Rattle.meaning.proofs.OnePart.{one-part}
 use Rattle.meaning.proofs.Pages.{outcome-begins, printedRecords}
 use Rattle.meaning.proofs.QueryGranted.{query-full-not-empty, query-full-readable, query-full-sorted, query-no-longer}
 use Rattle.meaning.proofs.QueryReading.{ReadBy, records-by}
-use Rattle.meaning.specs.Basics.{All, each, firstOf, rowless}
+use Rattle.meaning.specs.Basics.{All, each, firstOf, if_then_else_, rowless}
 use Rattle.meaning.specs.FullListing.{fullListing}
 use Rattle.meaning.specs.Listing.{Before, Sorted}
 use Rattle.meaning.specs.Machine.{lastOr}
-use Rattle.meaning.specs.Page.{Left, Lent, after, filled, fit, isEmpty, join, left, outcome, printed, printing, unlessFault}
+use Rattle.meaning.specs.Page.{Left, Lent, after, answerable, filled, fit, isEmpty, join, left, outcome, printed, printing, unlessFault, unlessOverrun}
 use Rattle.meaning.specs.QueryListing.{Fixed, fillPage, fixedBy, hostCallsOf, pageOf, queryFixedFault, queryFullListing, queryIn, recordsBy, recordsShown}
 use Rattle.meaning.specs.QueryRecord.{queryRecordSize}
 use Rattle.meaning.specs.QueryWords.{alone}
 use Rattle.meaning.specs.Record.{Record, recordSize}
-use Rattle.meaning.specs.Report.{bit, over, reportBytes, reported, wideEnough}
+use Rattle.meaning.specs.Report.{bit, over, reportBytes, reported, undigits, wideEnough}
+use Rattle.meaning.specs.Sitting.{carriesPast, holdsTotal, totalOf}
 use Rattle.search.proofs.Fitting.{fit-yes}
 use Rattle.printing.specs.Run.{Filled, First, Followed, Roomy, Shown, TypesOf, Whole, lentOf, recordsOf}
 use Rattle.printing.specs.Sizes.{Marked}
@@ -75,6 +77,30 @@ unfolding filled printing fit isEmpty
 filled-printing m [] h = refl
 filled-printing m (r ∷ l) h = rw (le-leb (length r) m (h .0)) refl
 
+-- no more records fit than there are words
+fit-all : (P : Record → Type 0) (m : ℕ) (l : List Record) → All P l → All P (fit m l)
+unfolding fit
+fit-all P m [] h = tt
+fit-all P m (r ∷ l) h = go (leb (length r) m) (fit-all P (m - length r) l (h .1))
+  where
+    go : (b : Bool) → All P (fit (m - length r) l) → All P (if b then r ∷ fit (m - length r) l else [])
+    go true k = (h .0, k)
+    go false k = tt
+
+few-fit : (m : ℕ) (l : List Record) → All (Before []) l → length (fit m l) ≤ m
+few-fit m l h = omega (arith, count-words (fit m l) (fit-all (Before []) m l h), fit-words m l)
+
+-- a fresh sitting takes the count of a page
+fresh-room : (n : ℕ) → n ≤ 4294967295 → carriesPast n (replicate 4 0) ≡ false
+unfolding carriesPast totalOf undigits
+fresh-room n h =
+    let z : totalOf (replicate 4 0) ≡ 0 = refl in
+    le-ltb 4294967295 (totalOf (replicate 4 0) + n) (omega arith)
+
+fresh-takes : (m : ℕ) (rest : List Record) → length (fit m rest) ≤ 4294967295 → unlessOverrun (replicate 4 0) (printing m rest) ≡ printing m rest
+unfolding unlessOverrun printing
+fresh-takes m rest h = rw (fresh-room (length (fit m rest)) h) refl
+
 module _ (image query : List ℕ) where
   abbrev full : List Record
   full = queryFullListing image query
@@ -97,9 +123,9 @@ module _ (image query : List ℕ) where
 
   -- ------------------------------------------------------------------ what a call leaves that nothing refuses
   module _ (ok : queryFixedFault image query ≡ none) where
-    outcome-filled : (c : Lent) → Roomy c → (rest : List Record) → outcome (queryFixedFault image query) c rest ≡ filled (length (c .page)) rest
-    unfolding outcome wideEnough firstOf rowless unlessFault
-    outcome-filled c r rest = rw (le-leb 64 (length (c .report)) (omega (arith, r .report)), ok, le-ltb (length (c .work)) 20000 (omega (arith, r .work))) refl
+    outcome-filled : (c : Lent) → Roomy c → (rest : List Record) → outcome (queryFixedFault image query) c rest ≡ unlessOverrun (replicate 4 0) (filled (length (c .page)) rest)
+    unfolding outcome answerable wideEnough holdsTotal firstOf rowless unlessFault
+    outcome-filled c r rest = rw (le-leb 64 (length (c .report)) (omega (arith, r .report)), r .fresh, ok, le-ltb (length (c .work)) 20000 (omega (arith, r .work))) refl
 
     short : (before rest : List Record) → before ++ rest ≡ full → All (λ r. length r ≤ 20000) rest
     short before rest e =
@@ -107,7 +133,11 @@ module _ (image query : List ℕ) where
         all-right (λ r. length r ≤ 20000) before rest (subst (All (λ r. length r ≤ 20000)) (sym e) h)
 
     outcome-is : (c : Lent) → Roomy c → (before rest : List Record) → before ++ rest ≡ full → outcome (queryFixedFault image query) c rest ≡ printing 20000 rest
-    outcome-is c r before rest e = outcome-filled c r rest ∙ (ap (λ (m : ℕ). filled m rest) (r .page) ∙ filled-printing 20000 rest (short before rest e))
+    outcome-is c r before rest e =
+        let some : All (Before []) rest = all-right (Before []) before rest (subst (All (Before [])) (sym e) (query-full-not-empty image query)) in
+        outcome-filled c r rest
+        ∙ (ap (λ (m : ℕ). unlessOverrun (replicate 4 0) (filled m rest)) (r .page)
+        ∙ (ap (unlessOverrun (replicate 4 0)) (filled-printing 20000 rest (short before rest e)) ∙ fresh-takes 20000 rest (omega (arith, few-fit 20000 rest some))))
 
     call-left : (c : Lent) → Roomy c → (before rest : List Record) → before ++ rest ≡ full → pageOf F (lastOr [] before) c .left ≡ left c (printing 20000 rest)
     unfolding pageOf fixedBy
@@ -294,12 +324,12 @@ module _ (image query : List ℕ) where
   first-used page report h = shown-used page report (reported 2 report) (first-shown page report (reported 2 report) h refl)
 
 -- ------------------------------------------------------------------ the ways out of the functions that call
-pub filled-by : (image query bookmark page report page′ work′ report′ : List ℕ) (r : ℕ) → length page ≡ 20000 → length report ≡ 64
-    → _≡_ {A = Left} (record { result = r; page = page′; work = work′; report = report′ }) (fillPage image query bookmark (record { page = page; work = replicate 20000 0; report = report }))
+pub filled-by : (image query bookmark page report sitting′ page′ work′ report′ : List ℕ) (r : ℕ) → length page ≡ 20000 → length report ≡ 64
+    → _≡_ {A = Left} (record { result = r; sitting = sitting′; page = page′; work = work′; report = report′ }) (fillPage image query bookmark (record { sitting = replicate 4 0; page = page; work = replicate 20000 0; report = report }))
     → Filled image query bookmark page report page′ report′
 unfolding fillPage
-filled-by image query bookmark page report page′ work′ report′ r p q e =
-    record { roomy = record { page = p; work = length-replicate {A = ℕ} 20000 0; report = q }; page-is = ap (λ (l : Left). l .page) e; report-is = ap (λ (l : Left). l .report) e }
+filled-by image query bookmark page report sitting′ page′ work′ report′ r p q e =
+    record { roomy = record { fresh = refl; page = p; work = length-replicate {A = ℕ} 20000 0; report = q }; page-is = ap (λ (l : Left). l .page) e; report-is = ap (λ (l : Left). l .report) e }
 
 pub followed-by : (image query types page report mark page′ report′ : List ℕ) (used size : ℕ) → used ≡ reported 3 report → Marked types page used mark size
     → Filled image query (take (size - 0) (drop 0 mark)) page report page′ report′ → Followed image query types page report page′ report′

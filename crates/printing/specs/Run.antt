@@ -33,11 +33,12 @@ pub record TypesOf (query types : List ℕ) : Type 0 where
   pub at : TypesAt found types
   pub size-is : (w : List ℕ) → queryRecordSize (queryIn query) w ≡ recordSize found w
 
--- what the program lends to a call: page and work of 20,000 words, a report of 64 bytes
+-- what the program lends to a call: a fresh sitting, page and work of 20,000 words, a report of 64 bytes
 abbrev pub lentOf : List ℕ → List ℕ → Lent
-lentOf page report = record { page = page; work = replicate 20000 0; report = report }
+lentOf page report = record { sitting = replicate 4 0; page = page; work = replicate 20000 0; report = report }
 
 pub record Roomy (c : Lent) : Type 0 where
+  pub fresh : c .sitting ≡ replicate 4 0
   pub page : length (c .page) ≡ 20000
   pub work : length (c .work) ≡ 20000
   pub report : length (c .report) ≡ 64

@@ -31,8 +31,18 @@ type Report = [u8; 64];
 fn fill(image: &[u8], query: &[u16], bookmark: &[u16], page: &mut Words, report: &mut Report)
     ensures { λ _. ⌜ Filled (now (image .entry)) (now (query .entry)) (now (bookmark .entry)) (now (page .entry)) (now (report .entry)) (now (page .exit)) (now (report .exit)) ⌝ }
 {
+    // the program keeps no total: each page has a fresh sitting, which takes any count
+    let mut sitting = [0u8; 4];
     let mut work = [0u16; Record::WORK];
-    gpc_fill_page(image, query, bookmark, page, &mut work, report);
+    gpc_fill_page(
+        image,
+        query,
+        bookmark,
+        &mut sitting,
+        page,
+        &mut work,
+        report,
+    );
 }
 
 // Fills the page with what comes after its last record.

@@ -17,6 +17,7 @@ pub mod query;
 pub mod random;
 pub mod record;
 pub mod refusal;
+pub mod sitting;
 pub mod table;
 pub mod timed;
 pub mod truth;

@@ -25,6 +25,12 @@ impl Listing {
         }
     }
 
+    /// The records after a bookmark of any words.
+    pub fn after(&self, bookmark: &[u16]) -> &[Record] {
+        let first = self.records.iter().position(|one| one.as_slice() > bookmark);
+        &self.records[first.unwrap_or(self.records.len())..]
+    }
+
     fn tried(image: &[u8], query: &[u16]) -> Result<Listing, Refusal> {
         let graph = image::read(image)?;
         let query = query::check(query)?;

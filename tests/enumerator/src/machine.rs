@@ -2,11 +2,14 @@
 //! bookmark: it only counts the records it has printed.
 
 use crate::listing::Listing;
-use crate::operations::{refused, tell, REPORT_BYTES, WORK_WORDS};
+use crate::operations::{refused, tell, Numbers, REPORT_BYTES, WORK_WORDS};
+use crate::refusal::Refusal;
+use crate::sitting::{raise, SITTING_BYTES};
 
 /// What one call is lent, and afterwards how the call leaves it.
 #[derive(Clone, PartialEq, Eq, Debug)]
 pub struct Lent {
+    pub sitting: Vec<u8>,
     pub page: Vec<u16>,
     pub work: Vec<u16>,
     pub report: Vec<u8>,
@@ -41,22 +44,23 @@ impl Machine<'_> {
 
     pub fn call(&mut self, lent: &Lent) -> Outcome {
         let mut left = lent.clone();
-        if lent.report.len() < REPORT_BYTES {
+        if lent.report.len() < REPORT_BYTES || lent.sitting.len() < SITTING_BYTES {
             return Outcome { result: 0, left };
         }
         let numbers = match self.listing.refusal(&lent.work) {
             Some(cause) => refused(cause),
             None => {
                 left.work[..WORK_WORDS].fill(0);
-                self.print(&mut left.page)
+                self.print(&mut left)
             }
         };
         let result = tell(&mut left.report, numbers);
         Outcome { result, left }
     }
 
-    /// Prints records from record k on as far as whole ones fit, or refuses by 23.
-    fn print(&mut self, page: &mut [u16]) -> [u64; 8] {
+    /// Prints records from record k on as far as whole ones fit, or refuses by 23 or 34.
+    fn print(&mut self, left: &mut Lent) -> Numbers {
+        let Lent { sitting, page, .. } = left;
         let coming = &self.listing.records[self.printed..];
         if !coming.is_empty() && coming[0].len() > page.len() {
             return [23, 0, 0, 0, 0, coming[0].len() as u64, 0, 0];
@@ -69,6 +73,9 @@ impl Machine<'_> {
             }
             printed.extend(record);
             count += 1;
+        }
+        if !raise(sitting, count) {
+            return refused(Refusal::of(34));
         }
         page[..printed.len()].copy_from_slice(&printed);
         self.printed += count;

@@ -12,6 +12,7 @@ enumerator queries SEED COUNT comparison cases: checking a query
 enumerator records SEED COUNT comparison cases: judging a record
 enumerator pages SEED COUNT   comparison cases: filling a page
 enumerator lists SEED COUNT   comparison cases: lists of calls to fill a page
+enumerator sittings SEED COUNT comparison cases: lists of calls to fill pages of changing listings in one sitting
 enumerator conditions SEED COUNT comparison cases: pages and records of conditions on properties that may be absent
 enumerator listings SEED COUNT comparison cases: what the program prints
 enumerator time IMAGE QUERY SECONDS  a listing timed: answers, words, seconds; 'over' after SECONDS

@@ -5,6 +5,7 @@ use crate::listing::Listing;
 use crate::query;
 use crate::record::Record;
 use crate::refusal::Refusal;
+use crate::sitting::{raise, SITTING_BYTES};
 use crate::typing::{type_words, TYPE_WORDS};
 
 pub const REPORT_BYTES: usize = 64;
@@ -50,11 +51,12 @@ pub fn fill_page(
     image: &[u8],
     query: &[u16],
     bookmark: &[u16],
+    sitting: &mut [u8],
     page: &mut [u16],
     work: &mut [u16],
     report: &mut [u8],
 ) -> u64 {
-    Listing::new(image, query).fill_page(bookmark, page, work, report)
+    Listing::new(image, query).fill_page(bookmark, sitting, page, work, report)
 }
 
 impl Listing {
@@ -75,27 +77,44 @@ impl Listing {
         tell(report, [0, 0, yes as u64, 0, 0, 0, 0, 0])
     }
 
-    pub fn fill_page(&self, bookmark: &[u16], page: &mut [u16], work: &mut [u16], report: &mut [u8]) -> u64 {
-        if report.len() < REPORT_BYTES {
+    pub fn fill_page(
+        &self,
+        bookmark: &[u16],
+        sitting: &mut [u8],
+        page: &mut [u16],
+        work: &mut [u16],
+        report: &mut [u8],
+    ) -> u64 {
+        if report.len() < REPORT_BYTES || sitting.len() < SITTING_BYTES {
             return 0;
         }
         if let Some(cause) = self.refusal(work) {
             return tell(report, refused(cause));
         }
         work[..WORK_WORDS].fill(0);
-        let later: Vec<&Record> = self.records.iter().filter(|one| one.as_slice() > bookmark).collect();
+        let later = self.after(bookmark);
         if let Some(first) = later.first().filter(|first| first.len() > page.len()) {
             return tell(report, [23, 0, 0, 0, 0, first.len() as u64, 0, 0]);
         }
-        let (mut count, mut used) = (0, 0);
-        while count < later.len() && used + later[count].len() <= page.len() {
-            page[used..used + later[count].len()].copy_from_slice(later[count]);
-            used += later[count].len();
-            count += 1;
+        let count = fitting(later, page.len());
+        if !raise(sitting, count) {
+            return tell(report, refused(Refusal::of(34)));
         }
+        let words = later[..count].concat();
+        page[..words.len()].copy_from_slice(&words);
         let done = count == later.len();
-        tell(report, [0, 0, count as u64, used as u64, done as u64, 0, 0, 0])
+        tell(report, [0, 0, count as u64, words.len() as u64, done as u64, 0, 0, 0])
     }
+}
+
+/// How many records, from the first on, fit as whole ones on a page of so many words.
+pub fn fitting(records: &[Record], room: usize) -> usize {
+    let mut used = 0;
+    let fits = |one: &&Record| {
+        used += one.len();
+        used <= room
+    };
+    records.iter().take_while(fits).count()
 }
 
 pub fn refused(cause: Refusal) -> Numbers {

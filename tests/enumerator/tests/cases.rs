@@ -1,58 +1,16 @@
 //! The text of comparison cases reads back to calls with the outcome it states.
 
+mod common;
+use common::read::*;
 use enumerator::cases;
+use enumerator::machine::{Lent, Outcome};
 use enumerator::operations::{check_query, fill_page, judge_record, numbers, read_image};
 use enumerator::program;
-use std::collections::{BTreeMap, BTreeSet};
-
-type Case = BTreeMap<String, String>;
-
-/// Reads a dump the way README.md describes it.
-fn items(text: &str, digits: usize) -> Vec<u16> {
-    let mut found = Vec::new();
-    for piece in text.split_whitespace() {
-        let item = |hex: &str| u16::from_str_radix(hex, 16).unwrap();
-        match piece.split_once('*') {
-            Some((hex, count)) => found.extend(vec![item(hex); count.parse().unwrap()]),
-            None => found.extend(piece.as_bytes().chunks(digits).map(|hex| item(std::str::from_utf8(hex).unwrap()))),
-        }
-    }
-    found
-}
-
-fn words(case: &Case, name: &str) -> Vec<u16> {
-    items(&case[name], 4)
-}
-
-fn bytes(case: &Case, name: &str) -> Vec<u8> {
-    items(&case[name], 2).into_iter().map(|byte| byte as u8).collect()
-}
-
-fn number(case: &Case, name: &str) -> u64 {
-    case[name].trim().parse().unwrap()
-}
-
-fn read(sort: &str, seed: u64, count: usize) -> Vec<Case> {
-    let mut text = String::new();
-    cases::text(sort, seed, count, &mut |more| text += more).unwrap();
-    let mut found: Vec<Case> = Vec::new();
-    for line in text.lines() {
-        let (name, rest) = line.split_once(' ').unwrap_or((line, ""));
-        if name == "case" {
-            assert_eq!(rest, found.len().to_string());
-            found.push(Case::new());
-            continue;
-        }
-        let before = found.last_mut().unwrap().insert(name.to_string(), rest.to_string());
-        assert_eq!(before, None);
-    }
-    assert_eq!(found.len(), count);
-    found
-}
+use std::collections::BTreeSet;
 
 #[test]
 fn images() {
-    for case in read("images", 5, 150) {
+    for case in read("images", 5, 150).concat() {
         let mut report = bytes(&case, "report");
         assert_eq!(read_image(&bytes(&case, "image"), &mut report), number(&case, "result"));
         assert_eq!(report, bytes(&case, "report-after"));
@@ -61,7 +19,7 @@ fn images() {
 
 #[test]
 fn queries() {
-    for case in read("queries", 5, 300) {
+    for case in read("queries", 5, 300).concat() {
         let (mut types, mut report) = (words(&case, "types"), bytes(&case, "report"));
         let result = check_query(&words(&case, "query"), &mut types, &mut report);
         assert_eq!(result, number(&case, "result"));
@@ -70,7 +28,7 @@ fn queries() {
     }
 }
 
-fn judged(case: &Case) {
+fn judged(case: &Call) {
     let (image, query, record) = (bytes(case, "image"), words(case, "query"), words(case, "record"));
     let (mut work, mut report) = (words(case, "work"), bytes(case, "report"));
     let result = judge_record(&image, &query, &record, &mut work, &mut report);
@@ -81,30 +39,27 @@ fn judged(case: &Case) {
 
 #[test]
 fn records() {
-    read("records", 5, 200).iter().for_each(judged);
+    read("records", 5, 200).concat().iter().for_each(judged);
 }
 
-fn filled(case: &Case) {
-    let (image, query, bookmark) = (bytes(case, "image"), words(case, "query"), words(case, "bookmark"));
-    let (mut page, mut work) = (words(case, "page"), words(case, "work"));
-    let mut report = bytes(case, "report");
-    let result = fill_page(&image, &query, &bookmark, &mut page, &mut work, &mut report);
-    assert_eq!(result, number(case, "result"));
-    assert_eq!(page, words(case, "page-after"));
-    assert_eq!(work, words(case, "work-after"));
-    assert_eq!(report, bytes(case, "report-after"));
+fn filled(call: &Call) {
+    let (image, query, bookmark) = (bytes(call, "image"), words(call, "query"), words(call, "bookmark"));
+    let mut left = lent(call);
+    let Lent { sitting, page, work, report } = &mut left;
+    let result = fill_page(&image, &query, &bookmark, sitting, page, work, report);
+    assert_eq!(Outcome { result, left }, outcome(call));
 }
 
 #[test]
 fn pages() {
-    read("pages", 5, 200).iter().for_each(filled);
+    read("pages", 5, 200).concat().iter().for_each(filled);
 }
 
 /// A case that lends a record judges it, and the others fill a page.
 #[test]
 fn conditions() {
-    let (judging, filling): (Vec<Case>, Vec<Case>) =
-        read("conditions", 5, 400).into_iter().partition(|case| case.contains_key("record"));
+    let (judging, filling): (Vec<Call>, Vec<Call>) =
+        read("conditions", 5, 400).concat().into_iter().partition(|case| case.contains_key("record"));
     judging.iter().for_each(judged);
     filling.iter().for_each(filled);
     for note in ["whole listing", "after a bookmark"] {
@@ -118,30 +73,35 @@ fn conditions() {
 /// Over a list the machine that counts says what the operation says after the bookmark.
 #[test]
 fn lists() {
-    let mut text = String::new();
-    cases::text("lists", 5, 100, &mut |more| text += more).unwrap();
-    let (mut fixed, mut calls) = (Case::new(), 0);
-    for part in text.split("\ncase ").flat_map(|case| case.split("\ncall ")) {
-        let lines = part.lines().filter_map(|line| line.split_once(' '));
-        let part: Case = lines.map(|(name, rest)| (name.to_string(), rest.to_string())).collect();
-        if part.contains_key("image") {
-            fixed = part;
-            continue;
+    let calls = read("lists", 5, 100).concat();
+    calls.iter().for_each(filled);
+    assert!(calls.len() > 300, "{}", calls.len());
+}
+
+/// Whether a sitting is lent as it was left, as far as both calls see it.
+fn goes_on(calls: &[Call]) -> bool {
+    let (left, lent) = (bytes(&calls[0], "sitting-after"), bytes(&calls[1], "sitting"));
+    left.iter().zip(&lent).all(|(left, lent)| left == lent)
+}
+
+/// Over a sitting each call is lent what the one before left, and listings change.
+#[test]
+fn sittings() {
+    let (mut changed, mut shorter) = (0, 0);
+    for calls in read("sittings", 5, 100) {
+        calls.iter().for_each(filled);
+        for pair in calls.windows(2) {
+            assert!(goes_on(pair));
+            changed += ((&pair[0]["image"], &pair[0]["query"]) != (&pair[1]["image"], &pair[1]["query"])) as usize;
+            shorter += (bytes(&pair[1], "sitting").len() < bytes(&pair[0], "sitting").len()) as usize;
         }
-        let mut call = fixed.clone();
-        for name in ["bookmark", "page", "work", "report", "page-after", "work-after", "report-after"] {
-            call.insert(name.to_string(), part.get(name).cloned().unwrap_or_default());
-        }
-        call.insert(String::from("result"), part["result"].clone());
-        filled(&call);
-        calls += 1;
     }
-    assert!(calls > 300, "{calls}");
+    assert!(changed > 50 && shorter > 10, "{changed} {shorter}");
 }
 
 #[test]
 fn listings() {
-    let cases = read("listings", 5, 400);
+    let cases = read("listings", 5, 400).concat();
     for case in &cases {
         assert_eq!(program::print(&bytes(case, "input")).as_bytes(), bytes(case, "text"));
     }

@@ -53,7 +53,7 @@ fn pages_of_ten_words_then_23_needing_17() {
 
 #[test]
 fn the_machine_gives_the_same_pages() {
-    let call = Lent { page: vec![GUARD; 10], work: vec![GUARD; 20_003], report: vec![0xee; 64] };
+    let call = Lent { sitting: vec![0; 4], page: vec![GUARD; 10], work: vec![GUARD; 20_003], report: vec![0xee; 64] };
     let outcomes = run(&Listing::new(&t(), &alone(1, &P)), &vec![call; 4]);
     for (outcome, record) in outcomes.iter().zip(&RECORDS[..2]) {
         assert_eq!(numbers(&outcome.left.report), [0, 0, 1, 10, 0, 0, 0, 0]);

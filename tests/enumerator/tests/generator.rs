@@ -336,7 +336,7 @@ fn a_line_fills_several_pages() {
 #[test]
 fn buffers_lie_on_both_sides_of_their_bounds() {
     let mut source = Source::new(11);
-    let lent: Vec<_> = (0..400).map(|_| buffers::lent(&mut source, 10)).collect();
+    let lent: Vec<_> = (0..400).map(|_| buffers::lent(&mut source, &[vec![0; 10]])).collect();
     for length in [0, 63, 64] {
         assert!(lent.iter().any(|call| call.report.len() == length), "{length}");
     }

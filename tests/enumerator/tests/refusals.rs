@@ -267,7 +267,7 @@ fn judge_and_page_refuse_in_order() {
         assert_eq!(told, [expected[0], expected[1], 0, 0, 0, 0, 0, 0]);
         assert!(work.iter().all(|&word| word == GUARD));
         let (mut page, mut work, mut report) = (vec![GUARD; 3], vec![GUARD; length], [0xee; 64]);
-        assert_eq!(fill_page(image, &query, &[], &mut page, &mut work, &mut report), 1);
+        assert_eq!(fill_page(image, &query, &[], &mut [0; 4], &mut page, &mut work, &mut report), 1);
         assert_eq!(numbers(&report), [expected[0], expected[1], 0, 0, 0, 0, 0, 0]);
         assert_eq!(page, [GUARD; 3]);
         assert!(work.iter().all(|&word| word == GUARD));
@@ -320,9 +320,10 @@ fn a_short_report_area_leaves_everything() {
         assert_eq!(read_image(&t(), &mut report), 0);
         assert_eq!(check_query(&alone(1, &P), &mut types, &mut report), 0);
         assert_eq!(judge_record(&t(), &alone(1, &P), &[0], &mut work, &mut report), 0);
-        assert_eq!(fill_page(&t(), &alone(1, &P), &[], &mut page, &mut work, &mut report), 0);
+        let mut sitting = [0; 4];
+        assert_eq!(fill_page(&t(), &alone(1, &P), &[], &mut sitting, &mut page, &mut work, &mut report), 0);
         assert_eq!(report, vec![0xee; length]);
-        assert_eq!((types, page), ([GUARD; 72], [GUARD; 30]));
+        assert_eq!((types, page, sitting), ([GUARD; 72], [GUARD; 30], [0; 4]));
         assert!(work.iter().all(|&word| word == GUARD));
     }
 }

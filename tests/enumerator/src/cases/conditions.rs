@@ -2,7 +2,7 @@
 //! page, a page after a bookmark, or a record judged. Bookmark and judged record are of
 //! the query without its conditions, so that these alone tell them from answers.
 
-use super::pages::{filled, fixed, next_words};
+use super::pages::filled;
 use super::records;
 use crate::random::buffers;
 use crate::random::conditions::{self, Conditioned};
@@ -16,11 +16,11 @@ pub fn batch(source: &mut Source) -> Vec<String> {
     let case = match source.below(8) {
         0..=3 => {
             let lent = buffers::lent_for_all(source, &listing.records);
-            filled(fixed("whole listing", &subject), &listing, &[], &lent)
+            filled("whole listing", &subject, &listing, &[], &lent)
         }
         4 => {
-            let lent = buffers::lent(source, next_words(&listing, &chosen));
-            filled(fixed("after a bookmark", &subject), &listing, &chosen, &lent)
+            let lent = buffers::lent(source, listing.after(&chosen));
+            filled("after a bookmark", &subject, &listing, &chosen, &lent)
         }
         _ => records::case(source, "judged", &subject, &listing, &chosen),
     };

@@ -9,6 +9,7 @@ mod lists;
 mod pages;
 mod queries;
 mod records;
+mod sittings;
 
 use crate::random::source::Source;
 
@@ -20,6 +21,7 @@ pub fn text(sort: &str, seed: u64, count: usize, write: &mut dyn FnMut(&str)) ->
         "records" => records::batch,
         "pages" => pages::batch,
         "lists" => lists::batch,
+        "sittings" => sittings::batch,
         "conditions" => conditions::batch,
         "listings" => listings::batch,
         _ => return None,

@@ -1,7 +1,9 @@
 //! Lent memory of random lengths, with contents that show what a call has written.
 
+use super::sittings;
 use super::source::Source;
 use crate::machine::Lent;
+use crate::operations::fitting;
 use crate::record::Record;
 
 /// Mostly one word over and over, so that dumps stay short; now and then all random.
@@ -56,7 +58,7 @@ pub fn work(source: &mut Source) -> Vec<u16> {
 }
 
 /// Around the length of the record that comes next, of a few records, or anything.
-pub fn page(source: &mut Source, next: usize) -> Vec<u16> {
+fn page(source: &mut Source, next: usize) -> Vec<u16> {
     let length = match source.below(10) {
         0 => next.saturating_sub(1),
         1 => next,
@@ -70,20 +72,34 @@ pub fn page(source: &mut Source, next: usize) -> Vec<u16> {
     guard_words(source, length)
 }
 
+/// All that a call to fill a page is lent but the bookmark, which these records come after.
+/// Where hundreds of them are left, half of the pages are for all.
+pub fn lent(source: &mut Source, later: &[Record]) -> Lent {
+    if later.len() > 255 && source.one_in(2) {
+        return lent_for_all(source, later);
+    }
+    let next = later.first().map_or(5, Vec::len);
+    let page = page(source, next);
+    lent_with(source, page, later)
+}
+
 /// The same with a page for several lengths of a listing, or so wide that the bookmark's own length is read from a trie.
-pub fn lent_widely(source: &mut Source, next: usize) -> Lent {
+pub fn lent_widely(source: &mut Source, later: &[Record]) -> Lent {
     let length = if source.one_in(3) { source.between(16_384, 17_000) } else { source.between(500, 3_000) };
-    Lent { page: guard_words(source, length), ..lent(source, next) }
+    let page = guard_words(source, length);
+    lent_with(source, page, later)
 }
 
 /// The same with a page for all of these records, one word less, or a few more.
-pub fn lent_for_all(source: &mut Source, records: &[Record]) -> Lent {
-    let all: usize = records.iter().map(Vec::len).sum();
+pub fn lent_for_all(source: &mut Source, later: &[Record]) -> Lent {
+    let all: usize = later.iter().map(Vec::len).sum();
     let length = (all + source.below(6)).saturating_sub(1);
-    Lent { page: guard_words(source, length), ..lent(source, 0) }
+    let page = guard_words(source, length);
+    lent_with(source, page, later)
 }
 
-/// All that a call to fill a page is lent but the bookmark.
-pub fn lent(source: &mut Source, next: usize) -> Lent {
-    Lent { page: page(source, next), work: work(source), report: report(source) }
+/// The sitting goes by how many of the records the page takes.
+fn lent_with(source: &mut Source, page: Vec<u16>, later: &[Record]) -> Lent {
+    let sitting = sittings::any(source, fitting(later, page.len()));
+    Lent { sitting, page, work: work(source), report: report(source) }
 }

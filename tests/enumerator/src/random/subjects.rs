@@ -67,6 +67,21 @@ pub fn journey(source: &mut Source) -> Subject {
     }
 }
 
+/// Hundreds of short records: each node beside each node. The image is too large for a
+/// prover that evaluates calls on small ones.
+fn crowd(source: &mut Source) -> Subject {
+    let nodes = source.between(17, 30);
+    let image = graphs::draft(source, [nodes, 10, 10, 0]).image();
+    let restrictors = [source.between(1, 4), source.between(1, 4)];
+    let node = |restrictor| Part { restrictor: restrictor as u16, name: 0, pattern: vec![1, 0, 0, 0, 0] };
+    Subject { image, query: words(&restrictors.map(node)) }
+}
+
+/// As `any`, and now and then a crowd, so that a page's count may be more than a byte.
+pub fn for_pages(source: &mut Source) -> Subject {
+    if source.one_in(40) { crowd(source) } else { any(source) }
+}
+
 /// As `sound`, and the listing has records.
 pub fn fruitful(source: &mut Source) -> (Subject, Listing) {
     loop {

@@ -1,6 +1,8 @@
 //! What the tests share: the graph T, the pattern P, and short ways to make calls.
 #![allow(dead_code)]
 
+pub mod read;
+
 use enumerator::listing::Listing;
 use enumerator::operations::{numbers, Numbers};
 use enumerator::query::{alone, words, Part};
@@ -105,7 +107,7 @@ pub struct Filled {
     pub work: Vec<u16>,
 }
 
-/// One page call with guarded memory; the work buffer has three words to spare.
+/// One page call with guarded memory and a fresh sitting; the work buffer has three words to spare.
 pub fn fill(image: &[u8], pattern: &[u16], restrictor: u16, bookmark: &[u16], page_words: usize) -> Filled {
     fill_joined(image, &alone(restrictor, pattern), bookmark, page_words)
 }
@@ -113,10 +115,14 @@ pub fn fill(image: &[u8], pattern: &[u16], restrictor: u16, bookmark: &[u16], pa
 /// The same of a query's words.
 pub fn fill_joined(image: &[u8], query: &[u16], bookmark: &[u16], page_words: usize) -> Filled {
     let (mut page, mut work, mut report) = (vec![GUARD; page_words], vec![GUARD; 20_003], vec![0xee; 70]);
-    let result = enumerator::operations::fill_page(image, query, bookmark, &mut page, &mut work, &mut report);
+    let mut sitting = [0; 4];
+    let result =
+        enumerator::operations::fill_page(image, query, bookmark, &mut sitting, &mut page, &mut work, &mut report);
     assert_eq!(result, 1);
     assert_eq!(report[64..], [0xee; 6]);
-    Filled { told: numbers(&report), page, work }
+    let told = numbers(&report);
+    assert_eq!(u64::from(u32::from_le_bytes(sitting)), told[2]);
+    Filled { told, page, work }
 }
 
 /// Whether a work buffer is as an accepted call leaves it.
