@@ -10,13 +10,12 @@ use lib.ListN.{length, length-append}
 use borrow.Author.Tests.{leb-true}
 use Rattle.meaning.proofs.Logic.{no-false}
 use Rattle.meaning.proofs.Opened.{opened}
-use Rattle.meaning.proofs.Pages.{printedRecords}
+use Rattle.meaning.proofs.Pages.{printedRecords, unless-overrun}
 use Rattle.meaning.specs.Basics.{All, Cause, firstOf, if_then_else_, keep, only, rowless}
 use Rattle.meaning.specs.Listing.{Before}
-use Rattle.meaning.specs.Page.{Lent, Outcome, answerable, filled, fit, join, needs, outcome, overrun, printed, printing, refused, unanswered, unlessFault, unlessOverrun}
+use Rattle.meaning.specs.Page.{Lent, Outcome, answerable, filled, fit, join, needs, outcome, printing, unanswered, unlessFault, unlessOverrun}
 use Rattle.meaning.specs.Record.{Record}
 use Rattle.meaning.specs.Report.{digits, reportBytes, reported, undigits}
-use Rattle.meaning.specs.Sitting.{carriesPast}
 
 pub digits-read : (n x : ℕ) → x < 256 ^ n → undigits (digits n x) ≡ x
 unfolding opened printedRecords
@@ -65,19 +64,8 @@ outcome-words fault c rest = go (answerable c)
         if-fits true = fit-words (length (c .page)) (r ∷ l)
         if-fits false = omega arith
 
-    unless-past : (o : Outcome) → Few (length (c .page)) o → Few (length (c .page)) (unlessOverrun (c .sitting) o)
-    unless-past unanswered h = h
-    unless-past (refused f) h = h
-    unless-past (needs n) h = h
-    unless-past overrun h = h
-    unless-past (printed rs done) h = if-past (carriesPast (length rs) (c .sitting))
-      where
-        if-past : (b : Bool) → Few (length (c .page)) (if b then overrun else printed rs done)
-        if-past true = omega arith
-        if-past false = h
-
     unless : (f : Cause) → Few (length (c .page)) (unlessFault f (unlessOverrun (c .sitting) (filled (length (c .page)) rest)))
-    unless none = unless-past (filled (length (c .page)) rest) (fills rest)
+    unless none = unless-overrun (Few (length (c .page))) (c .sitting) (filled (length (c .page)) rest) (omega arith) (fills rest)
     unless (some f) = omega arith
 
     go : (b : Bool) → Few (length (c .page)) (if b then unlessFault (firstOf fault (rowless 22 (ltb (length (c .work)) 20000))) (unlessOverrun (c .sitting) (filled (length (c .page)) rest)) else unanswered)
