@@ -1,5 +1,7 @@
 // Sets of numbers below 256, by value, as masks over four words; and masks of one word. Each function promises what the set of the
 // result has, as a function of the sets of its arguments.
+#![tactic(auto)]
+
 mod stored;
 
 ghost use Rattle.std.specs.Prelude.{◌≡◌, cond, ◌-◌};
@@ -8,7 +10,7 @@ ghost use Rattle.bits.specs.Sets.{bit, set_of, none, only, below, unite, meet, m
 pub use stored::{put_set, set_at};
 
 // 01: used nodes and edges as masks over u64 words. Number k is bit k % 64 of word k / 64.
-#[derive(Drop)]
+#[derive(Clone, Copy)]
 pub struct Set {
     pub w: [u64; 4],
 }

@@ -5,7 +5,7 @@ use crate::turn::Turn;
 use words::wide;
 
 // given: how many of the two the bookmark has; a word that it does not have is 0.
-#[derive(Drop)]
+#[derive(Clone, Copy)]
 pub struct Head {
     pub given: usize,
     pub n: usize,

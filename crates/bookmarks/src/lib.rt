@@ -1,4 +1,6 @@
 // How lengths, starts and the first words of a record lie to the bookmark; the bookmark's own words as the beginning of a record.
+#![tactic(auto)]
+
 mod copied;
 mod head;
 mod side;

@@ -1,4 +1,6 @@
 // The numbers of edges of a match, by the table alone: the least and the greatest, and those that it can have.
+#![tactic(auto)]
+
 mod fewest;
 mod greatest;
 mod lengths;

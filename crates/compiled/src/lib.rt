@@ -1,5 +1,7 @@
 // What a call reads, compiled once into lent words: `graph` has the graph of an accepted image, `plan` the table of an accepted pattern
 // and its restrictor. The layout of both is known here alone; everything else asks these functions.
+#![tactic(auto)]
+
 mod copy;
 mod derived;
 mod fill;

@@ -105,7 +105,7 @@ pub fn is_labelled(graph: &[u64], x: Element, label: u16) -> bool
 }
 
 // The value of a property, where the element has it: a word that only equality is asked of.
-#[derive(Drop)]
+#[derive(Clone, Copy)]
 pub enum Value {
     Found(u64),
     Absent,

@@ -5,20 +5,20 @@ ghost use Rattle.conditions.specs.Bound.{binding_of, bound_of, Unbound, Rebound}
 use compiled::Element;
 
 // What is known of a variable's element.
-#[derive(Drop)]
+#[derive(Clone, Copy)]
 pub enum Binding {
     Unknown,
     To(Element),
 }
 
 // A binding in a struct, since an array of enums is not had in a struct.
-#[derive(Drop)]
+#[derive(Clone, Copy)]
 pub struct Slot {
     pub binding: Binding,
 }
 
 // Slot 0 is no variable's.
-#[derive(Drop)]
+#[derive(Clone, Copy)]
 pub struct Bound {
     pub slots: [Slot; 9],
 }

@@ -1,5 +1,7 @@
 // Conditions of a pattern table while some elements are not known yet: the truth values that each can still have, as the model has it; with
 // every element known it is the condition's own.
+#![tactic(auto)]
+
 mod bound;
 mod evaluate;
 mod known;

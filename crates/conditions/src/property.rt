@@ -15,7 +15,7 @@ use crate::truth::{Truths, any_truth, decided, unknown};
 use compiled::Value;
 
 // A property's value as far as it is known.
-#[derive(Drop)]
+#[derive(Clone, Copy)]
 pub enum Property {
     Open,
     Absent,

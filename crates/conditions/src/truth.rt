@@ -5,7 +5,7 @@ ghost use Rattle.meaning.specs.Truth.{Unknown, decided};
 ghost use Rattle.conditions.specs.Truths.{truths_of};
 
 // Which of the three are still possible: true, false, unknown.
-#[derive(Drop)]
+#[derive(Clone, Copy)]
 pub struct Truths {
     pub yes: bool,
     pub no: bool,

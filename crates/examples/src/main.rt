@@ -1,4 +1,6 @@
 // Runs the examples of 01 that are not marked there, and those of Q-2. The file stdout has what each must print.
+#![tactic(auto)]
+
 mod absent;
 mod graphs;
 mod limits;

@@ -4,7 +4,7 @@ ghost use Rattle.gpc.specs.Cause.{cause_of};
 ghost use Rattle.words.specs.Fault.{is_refused, number_of, row_of};
 
 // What refuses a call that looks for records, if anything does.
-#[derive(Drop)]
+#[derive(Clone, Copy)]
 pub enum Cause {
     Nothing,
     Image(image::Verdict),

@@ -1,5 +1,7 @@
 // The operations for C: nothing but calls of the proved library and the report. Each promise is one equation with a definition of
 // `meaning`, and holds for all that is lent.
+#![tactic(auto)]
+
 mod cause;
 mod fixed;
 

@@ -4,14 +4,14 @@ ghost use Rattle.meaning.specs.Image.{good_directory_lem};
 ghost use Rattle.image.specs.Directory.{Placed, Listed, Small, meets, whole};
 
 // A section's offset and its length in bytes.
-#[derive(Drop)]
+#[derive(Clone, Copy)]
 pub struct Extent {
     pub at: usize,
     pub bytes: usize,
 }
 
 // 01: the four pairs of offset and length, in the order of the sections.
-#[derive(Drop)]
+#[derive(Clone, Copy)]
 pub struct Directory {
     pub nodes: Extent,
     pub edges: Extent,

@@ -1,4 +1,6 @@
 // The graph image: read and checked (1 to 7 of 01), and the cells of its rows, which `compiled` copies from an accepted one.
+#![tactic(auto)]
+
 mod cells;
 mod directory;
 mod faults;

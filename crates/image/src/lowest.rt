@@ -8,7 +8,7 @@ use crate::faults::{bad_edge, bad_label, bad_node, bad_property};
 use crate::sections::Sections;
 
 // The sections of an image, in their order.
-#[derive(Drop)]
+#[derive(Clone, Copy)]
 pub enum Section {
     Nodes,
     Edges,
@@ -17,7 +17,7 @@ pub enum Section {
 }
 
 // The lowest faulty row, if there is one.
-#[derive(Drop)]
+#[derive(Clone, Copy)]
 pub enum Row {
     At(usize),
     Nothing,

@@ -10,7 +10,7 @@ use crate::lowest::{Row, Section, lowest_bad};
 use crate::sections::{Sections, sections_of, too_many};
 
 // The last four name the faulty row of their section.
-#[derive(Drop)]
+#[derive(Clone, Copy)]
 pub enum Verdict {
     Accepted,
     TooShort,

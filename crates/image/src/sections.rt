@@ -5,14 +5,14 @@ ghost use Rattle.image.specs.Sections.{Laid, crowded};
 use crate::directory::directory_of;
 
 // The rows of a section: where the first begins, and how many there are.
-#[derive(Drop)]
+#[derive(Clone, Copy)]
 pub struct Rows {
     pub at: usize,
     pub count: usize,
 }
 
 // The rows of each section.
-#[derive(Drop)]
+#[derive(Clone, Copy)]
 pub struct Sections {
     pub nodes: Rows,
     pub edges: Rows,

@@ -26,7 +26,7 @@ fn same_words(words: &[u16], a: usize, b: usize, c: usize) -> bool
 }
 
 // ok: the path that is named stands at `at`, if one is; end: behind it.
-#[derive(Drop)]
+#[derive(Clone, Copy)]
 pub struct After {
     pub ok: bool,
     pub end: usize,

@@ -38,7 +38,7 @@ pub fn paths_end(words: &[u16], n: usize) -> usize
 }
 
 // Where a path begins and ends.
-#[derive(Drop)]
+#[derive(Clone, Copy)]
 pub struct Span {
     pub from: usize,
     pub to: usize,

@@ -1,4 +1,6 @@
 // Whether words are the record of an answer: the path that they tell, its values, the restrictor, and that no answer is shorter.
+#![tactic(auto)]
+
 mod matched;
 mod nodes;
 mod repeats;

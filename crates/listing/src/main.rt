@@ -1,4 +1,6 @@
 // Prints a listing: standard input holds the image, the pattern and the restrictor, as 01 says under 'Examples'.
+#![tactic(auto)]
+
 mod input;
 
 // Reads all, then prints.

@@ -1,6 +1,6 @@
 // What may not occur twice in a path (01: trail, no edge twice; simple, no node twice).
 
-#[derive(Drop)]
+#[derive(Clone, Copy)]
 pub enum Base {
     Trail,
     Simple,

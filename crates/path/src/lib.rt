@@ -1,5 +1,7 @@
 // A path by value, handed through the walk; beside it the nodes and edges that it has used, as masks. Each function promises which
 // path of the definitions the result is, or what the masks are of.
+#![tactic(auto)]
+
 mod base;
 mod path;
 mod tails;

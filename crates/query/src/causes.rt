@@ -10,7 +10,7 @@ use crate::patterns::check_patterns;
 use crate::typing::untyped;
 
 // BadPattern is a part's own cause.
-#[derive(Drop)]
+#[derive(Clone, Copy)]
 pub enum Verdict {
     Accepted,
     TypeAreaTooShort,

@@ -6,7 +6,7 @@ ghost use Rattle.query.specs.Parts.{PartsCounted, PartIs, StartIs};
 use words::wide;
 
 // The head of a part, and the indices between which its pattern's words stand.
-#[derive(Drop)]
+#[derive(Clone, Copy)]
 pub struct Part {
     pub restrictor: usize,
     pub name: usize,

@@ -1,5 +1,7 @@
 // The check of a query's words (02, Q-1), 31, 32, 11 to 16 of each part and 33, and its types: the first cause that holds, the 72 words of
 // the type area, and the look-ups of what is laid out.
+#![tactic(auto)]
+
 mod causes;
 mod layout;
 mod names;

@@ -2,7 +2,7 @@
 use crate::at::At;
 
 // Its first `known` words, its path of `last` edges, and the places where the values of the variables begin.
-#[derive(Drop)]
+#[derive(Clone, Copy)]
 pub struct Given {
     pub known: usize,
     pub last: usize,

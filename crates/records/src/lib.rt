@@ -1,5 +1,7 @@
 // The known words of a record, as the matcher's model sees them: where values stand, where they end, and what they agree with. Each
 // function equals one of the model, on the views that its places are of.
+#![tactic(auto)]
+
 mod at;
 mod factors;
 mod given;

@@ -6,7 +6,7 @@ use crate::at::At;
 use crate::value_ends::{type_of, value_end};
 
 // Where the values begin, and where they end.
-#[derive(Drop)]
+#[derive(Clone, Copy)]
 pub struct Slots {
     pub at: At,
     // The place after the last value, or NONE while that is not known.

@@ -1,4 +1,6 @@
 // The rows of a pattern table: their numbers, and the checks 12 and 13 of 01. What a row is read as is what its definition reads.
+#![tactic(auto)]
+
 mod naming;
 mod numbers;
 mod row;

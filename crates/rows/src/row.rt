@@ -5,7 +5,7 @@ ghost use Rattle.rows.specs.Rows.{Reads, pattern_kind_lem, condition_kind_lem, s
 use words::wide;
 
 // 01: a row of five numbers.
-#[derive(Drop)]
+#[derive(Clone, Copy)]
 pub struct Row {
     pub kind: usize,
     pub p: usize,
@@ -35,7 +35,7 @@ pub fn row_at(pattern: &[u16], i: usize) -> Row
 }
 
 // What the kind says that a row is.
-#[derive(Drop)]
+#[derive(Clone, Copy)]
 pub enum Sort {
     Pattern,
     Condition,

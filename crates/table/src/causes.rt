@@ -8,7 +8,7 @@ ghost use Rattle.words.specs.Fault.{is_refused, number_of, row_of};
 use crate::lowest::{Fault, Row, lowest_faulty};
 
 // The last five name the faulty row.
-#[derive(Drop)]
+#[derive(Clone, Copy)]
 pub enum Verdict {
     Accepted,
     BadLength,

@@ -1,4 +1,6 @@
 // The check of a pattern table, 11 to 16 of 01, the first cause that holds with the lowest row; and the variables and types of its rows.
+#![tactic(auto)]
+
 mod causes;
 mod lowest;
 mod repetition;

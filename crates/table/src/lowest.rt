@@ -10,7 +10,7 @@ use crate::typing::untyped;
 use rows::{loose, malformed};
 
 // The faults that name a row, in the order of 01.
-#[derive(Drop)]
+#[derive(Clone, Copy)]
 pub enum Fault {
     Malformed,
     Loose,
@@ -20,7 +20,7 @@ pub enum Fault {
 }
 
 // The lowest faulty row, if there is one.
-#[derive(Drop)]
+#[derive(Clone, Copy)]
 pub enum Row {
     At(usize),
     Nothing,

@@ -1,5 +1,7 @@
 // A type as one number, its outermost constructor in the lowest digit to base 8; 0 not used, 7 no type. Each function promises the
 // number of the type that a rule of Figure 2 of 000 gives.
+#![tactic(auto)]
+
 mod digits;
 
 ghost use Rattle.std.specs.Prelude.{◌<◌, ◌+◌, ◌*◌};

@@ -1,5 +1,7 @@
 // Numbers in bytes, the report of eight numbers, and words that are read, cleared and copied. Each promise is an equation with the
 // memory afterwards, what is left untouched included.
+#![tactic(auto)]
+
 mod lent;
 mod little;
 mod report;

@@ -1,0 +1,6 @@
+-- `bits::Set::meet` meets its contract: word by word. Assumes nothing.
+use Rattle.bits.proofs.Words.{meet_words}
+use Rattle.bits.proofs.Set.meet.Goals as goal
+
+pub returns : goal.returns
+returns c = meet_words _ _

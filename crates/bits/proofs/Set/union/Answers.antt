@@ -1,0 +1,6 @@
+-- `bits::Set::union` meets its contract: word by word. Assumes nothing.
+use Rattle.bits.proofs.Words.{union_words}
+use Rattle.bits.proofs.Set.union.Goals as goal
+
+pub returns : goal.returns
+returns c = union_words _ _

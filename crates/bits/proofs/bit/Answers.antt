@@ -1,0 +1,11 @@
+-- `bits::bit` meets its contract: a shift, a mask and a test are the bit. Assumes nothing.
+use native.Mathlib.Omega.{arith}
+use Rattle.bits.proofs.Bits.{bit_code}
+use Rattle.bits.proofs.Masks.{bit_far}
+use Rattle.bits.proofs.bit.Goals as goal
+
+pub returns-then-k-ge64 : goal.returns-then-k-ge64
+returns-then-k-ge64 c = search (bit_far, arith)
+
+pub returns : goal.returns
+returns c = search (bit_code, arith)

@@ -1,0 +1,13 @@
+use Rattle.calls.proofs.CallWays.{alone_judged, alone_ready, call_accepted, call_lawful, call_some}
+use native.Mathlib.Omega.{arith}
+use borrow.Author.Rules.{rules}
+use Rattle.calls.proofs.judging.judge_alone.Goals as goal
+
+pub compile_part-requires : goal.compile_part-requires
+compile_part-requires c = (search (call_accepted, arith), search (call_some, arith), search (call_lawful, arith), search rules)
+
+pub judge-requires : goal.judge-requires
+judge-requires c = (search (alone_ready, arith), search rules)
+
+pub returns : goal.returns
+returns c = search (alone_judged, arith)

@@ -1,0 +1,10 @@
+-- `conditions::known::binding_at` meets its contract. Assumes nothing.
+use Rattle.conditions.proofs.KnownWords.{at_known, at_unknown}
+use native.Mathlib.Omega.{arith}
+use Rattle.conditions.proofs.known.binding_at.Goals as goal
+
+pub returns-then-place-known : goal.returns-then-place-known
+returns-then-place-known c = search (at_known, arith)
+
+pub returns : goal.returns
+returns c = search (at_unknown, arith)

@@ -1,0 +1,16 @@
+use native.Mathlib.Omega.{arith}
+use Rattle.gpc.proofs.Ways.{wide_enough}
+use Rattle.gpc.proofs.Answering.{begun_granted, begun_refused, begun_short}
+use Rattle.gpc.proofs.begin.Goals as goal
+
+pub returns-then-is_short : goal.returns-then-is_short
+returns-then-is_short c = search (begun_short, arith)
+
+pub refuse-requires : goal.refuse-requires
+refuse-requires c = search (wide_enough, arith)
+
+pub returns-then-is_refused : goal.returns-then-is_refused
+returns-then-is_refused c = search (begun_refused, arith)
+
+pub returns : goal.returns
+returns c = search (begun_granted, arith)

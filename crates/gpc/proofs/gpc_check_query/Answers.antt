@@ -1,0 +1,13 @@
+-- `gpc::gpc_check_query` meets its contract. Assumes nothing.
+use native.Mathlib.Omega.{arith}
+use Rattle.gpc.proofs.Ways.{no_check, checked, wide_enough}
+use Rattle.gpc.proofs.gpc_check_query.Goals as goal
+
+pub returns-then-is_short : goal.returns-then-is_short
+returns-then-is_short c = search (no_check, arith)
+
+pub write_report-requires : goal.write_report-requires
+write_report-requires c = search (wide_enough, arith)
+
+pub returns : goal.returns
+returns c = search (checked, arith)

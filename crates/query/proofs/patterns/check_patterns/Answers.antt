@@ -1,0 +1,16 @@
+use Rattle.query.proofs.Behind.{behind_none}
+use Rattle.query.proofs.PartWays.{pattern_bad, pattern_fine, patterns_all}
+use native.Mathlib.Omega.{arith}
+use Rattle.query.proofs.patterns.check_patterns.Goals as goal
+
+pub loop-i-init : goal.loop-i-init
+loop-i-init c = search (behind_none, arith)
+
+pub returns-then-is_refused : goal.returns-then-is_refused
+returns-then-is_refused c = search (pattern_bad, arith)
+
+pub loop-i-preserved : goal.loop-i-preserved
+loop-i-preserved c = search (pattern_fine, arith)
+
+pub returns : goal.returns
+returns c = search (patterns_all, arith)
