@@ -22,7 +22,7 @@ use Rattle.meaning.specs.Table.{Item, Row, any_of, as_pattern, condition_item_le
 use Rattle.meaning.specs.Typing.{Found, absent, clash, type_of}
 
 -- a test that fails on all fails at each
-any_false : (f : ℕ → Bool) {l : List ℕ} {x : ℕ} → x ∈ l → any_of l f ≡ false → f x ≡ false
+any_false : (f : ℕ → Bool) {x : ℕ} {l : List ℕ} → x ∈ l → any_of l f ≡ false → f x ≡ false
 unfolding opened
 any_false f (Memᴰ.head {x = y} {xs = ys} q) e = ap f q ∙ or_false_l (f y) (any_of ys f) e
 any_false f (Memᴰ.tail {x = y} {xs = ys} m) e = any_false f m (or_false_r (f y) (any_of ys f) e)

@@ -46,7 +46,7 @@ module _ (G : Graph) (valid : Valid G) (π : Pattern) (sound : Sound π) where
       ))
       (λ q. let k = beaten→ p l q in (k.0, Memᴰ.tail k.1, k.2, k.3, k.4))
 
-  beaten← : (p : Walk) {l : List (Walk × Assignment)} (a : Walk × Assignment) → a ∈ l → src a.0 ≡ src p → tgt a.0 ≡ tgt p → len a.0 < len p → beaten p l ≡ true
+  beaten← : (p : Walk) (a : Walk × Assignment) {l : List (Walk × Assignment)} → a ∈ l → src a.0 ≡ src p → tgt a.0 ≡ tgt p → len a.0 < len p → beaten p l ≡ true
   unfolding opened
   beaten← p a (Memᴰ.head {x = b} {xs = l} e) h k n =
       or_l (eqb (src b.0) (src p) && (eqb (tgt b.0) (tgt p) && ltb (len b.0) (len p))) (beaten p l)

@@ -106,7 +106,7 @@ pub all_both : {A : Type 0} {P Q R : A → Type 0} → ((a : A) → P a → Q a 
 all_both f [] h j = tt
 all_both f (x ∷ xs) h j = (f x h.0 j.0, all_both f xs h.1 j.1)
 
-pub all_mem : {A : Type 0} (P : A → Type 0) {l : List A} {x : A} → All P l → x ∈ l → P x
+pub all_mem : {A : Type 0} (P : A → Type 0) {x : A} {l : List A} → All P l → x ∈ l → P x
 all_mem P h (Memᴰ.head e) = rw e h.0
 all_mem P h (Memᴰ.tail m) = all_mem P h.1 m
 

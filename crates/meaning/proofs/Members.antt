@@ -35,7 +35,7 @@ module _ {A : Type 0} where
       go ih (inl n) = let p = only→ (f x) n in (Memᴰ.head p.1, ap f p.1 ∙ p.0)
       go ih (inr n) = let p = ih n in (Memᴰ.tail p.0, p.1)
 
-  pub keep← : (f : A → Bool) {l : List A} {a : A} → a ∈ l → f a ≡ true → a ∈ keep f l
+  pub keep← : (f : A → Bool) {a : A} {l : List A} → a ∈ l → f a ≡ true → a ∈ keep f l
   unfolding opened
   keep← f (Memᴰ.head {x = x} {xs = xs} e) h = Memᴰ.append_left (keep f xs) (only← (f x) (ap f (sym e) ∙ h) e)
   keep← f (Memᴰ.tail {x = x} m) h = Memᴰ.append_right (only (f x) x) (keep← f m h)
@@ -50,7 +50,7 @@ module _ {A B : Type 0} where
       go ih (inl n) = (x, Memᴰ.head refl, n)
       go ih (inr n) = let p = ih n in (p.0, Memᴰ.tail p.1, p.2)
 
-  pub each← : {l : List A} (f : A → List B) {a : A} {b : B} → a ∈ l → b ∈ f a → b ∈ each l f
+  pub each← : (f : A → List B) {a : A} {b : B} {l : List A} → a ∈ l → b ∈ f a → b ∈ each l f
   unfolding opened
   each← f {b = b} (Memᴰ.head {x = x} {xs = xs} e) n = Memᴰ.append_left (each xs f) (rw e at n)
   each← f (Memᴰ.tail {x = x} m) n = Memᴰ.append_right (f x) (each← f m n)

@@ -105,12 +105,12 @@ module _ (x : ℕ) where
   has→used : (a : Part) (τ : Ty) → type_of (part_pattern a) x ≡ typed τ → in_var (part_pattern a) x ≡ true
   has→used a τ e = type_used ((has_iff (part_pattern a) x τ).0 e)
 
-  nowhere : {l : List Part} {b : Part} → b ∈ l → over l ≡ absent → in_var (part_pattern b) x ≡ false
+  nowhere : {b : Part} {l : List Part} → b ∈ l → over l ≡ absent → in_var (part_pattern b) x ≡ false
   unfolding over
   nowhere (Memᴰ.head {x = a} {xs = l} e) q = rw e (absent→unused (part_pattern a) x (concatenation_absent (type_of (part_pattern a) x) (over l) q).0)
   nowhere (Memᴰ.tail {x = a} {xs = l} m) q = nowhere m (concatenation_absent (type_of (part_pattern a) x) (over l) q).1
 
-  everywhere : {l : List Part} {b : Part} (τ : Ty) → b ∈ l → over l ≡ typed τ → in_var (part_pattern b) x ≡ true → type_of (part_pattern b) x ≡ typed τ
+  everywhere : {b : Part} {l : List Part} (τ : Ty) → b ∈ l → over l ≡ typed τ → in_var (part_pattern b) x ≡ true → type_of (part_pattern b) x ≡ typed τ
   unfolding over
   everywhere τ (Memᴰ.head {x = a} {xs = l} e) q u =
       either (typed_cases (type_of (part_pattern a) x) (over l) τ q) (λ c. rw e c.0) (λ c. either c (λ d. rw e d.0) (λ d. no_true (sym u ∙ rw e (absent→unused (part_pattern a) x d.0))))
@@ -147,6 +147,7 @@ module _ (x : ℕ) where
 
   over← : (l : List Part) → OfTwo (Differ x) l → over l ≡ clash
   unfolding query_opened over
+  over← [] h = elim h [ ]
   over← (a ∷ l) (inl (b, m, d)) = go (type_of (part_pattern a) x) (over l) refl refl
     where
       go : (f g : Found) → type_of (part_pattern a) x ≡ f → over l ≡ g → concatenation_ty f g ≡ clash
@@ -263,7 +264,7 @@ unfolding query_opened
 any_true f [] e = no_false e
 any_true f (x ∷ l) e = either (or_cases (f x) (any_of l f) e) (λ h. (x, h)) (any_true f l)
 
-any_member : (f : ℕ → Bool) {l : List ℕ} {x : ℕ} → x ∈ l → f x ≡ true → any_of l f ≡ true
+any_member : (f : ℕ → Bool) {x : ℕ} {l : List ℕ} → x ∈ l → f x ≡ true → any_of l f ≡ true
 unfolding query_opened
 any_member f (Memᴰ.head {x = y} {xs = l} e) h = or_l (f y) (any_of l f) (ap f (sym e) ∙ h)
 any_member f (Memᴰ.tail {x = y} {xs = l} m) h = or_r (f y) (any_of l f) (any_member f m h)
@@ -277,6 +278,7 @@ clash_is path e = no_false e
 
 -- the first part of two uses the variable
 used_by : (x : ℕ) (l : List Part) → OfTwo (Differ x) l → (a : Part) × (a ∈ l) × (in_var (part_pattern a) x ≡ true)
+used_by x [] h = elim h [ ]
 used_by x (a ∷ l) (inl (b, m, d)) = (a, Memᴰ.head refl, d.in_first)
 used_by x (a ∷ l) (inr t) = let h = used_by x l t in (h.0, Memᴰ.tail h.1, h.2)
 

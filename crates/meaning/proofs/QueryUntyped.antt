@@ -84,6 +84,7 @@ refused_33 query = (there (bad_layout_lem query) (bad_names_lem (parts_of query)
     there false false none true p q r s e = let h = some_part (parts_of query) (layout_parts query p).0 q r s in record { laid_out = p; named = q; accepted = r; variable = h.0; differ = h.1 }
 
     untyped : (l : List Part) (x : ℕ) → bad_names_lem l ≡ false → parts_fault l ≡ none → OfTwo (Differ x) l → query_untyped (query_of l) ≡ true
+    untyped [] x n f t = elim t [ ]
     untyped (a ∷ l) x n f t = untyped← a l (good_parts (a ∷ l) n f) n x t
 
     back : SharedUntyped query → query_fault query ≡ some (33, 0)

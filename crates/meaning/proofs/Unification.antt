@@ -33,7 +33,7 @@ agree← none b h = refl
 agree← (some v) none h = refl
 agree← (some v) (some w) h = same← (Value-dec v w) (h v w refl refl)
 
-pub unifies→ : {xs : List ℕ} (μ ν : Assignment) {x : ℕ} → x ∈ xs → unifies xs μ ν ≡ true → agree (μ x) (ν x) ≡ true
+pub unifies→ : (μ ν : Assignment) {x : ℕ} {xs : List ℕ} → x ∈ xs → unifies xs μ ν ≡ true → agree (μ x) (ν x) ≡ true
 unfolding opened
 unifies→ μ ν (Memᴰ.head {x = y} {xs = ys} e) h = rw e (and_l (agree (μ y) (ν y)) (unifies ys μ ν) h)
 unifies→ μ ν (Memᴰ.tail {x = y} {xs = ys} m) h = unifies→ μ ν m (and_r (agree (μ y) (ν y)) (unifies ys μ ν) h)

@@ -17,5 +17,5 @@ bounds-words-i-4 c = simp length-set (omega arith)
 
 pub returns : goal.returns
 returns c = let a = c in
-    let l : length a.args.t3.w ≡ 4 = search rules in
-    stored_is a.args.words.now a.args.t3.w a.args.k (search rules) l
+    let l : length a.args.x.w ≡ 4 = search rules in
+    stored_is a.args.words.now a.args.x.w a.args.k (search rules) l
