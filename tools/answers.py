@@ -178,7 +178,7 @@ class File:
             while steps and steps[0] == "1" and at < len(params) - 1:
                 at += 1
                 steps = steps[1:]
-            if steps and steps[0] == "0" and at < len(params) - 1:
+            if steps and steps[0] == "0":
                 steps = steps[1:]
             return "l." + ".".join([params[at], *steps])
         term = re.sub(r"(?<![\w.'-])a((?:\.[\w'-]+)+)", one, term)
