@@ -1,10 +1,10 @@
 -- `bounds::row_lengths::possible` meets its contract, by recursion on a falling measure. Assumes nothing.
 use Rattle.bounds.proofs.PossibleWays.{possible_concatenation, possible_conditioned, possible_edge, possible_high, possible_low, possible_repetition, possible_union}
-use Rattle.meaning.proofs.Logic.{either}
 use Rattle.table.proofs.Descent.{p_falls, q_falls}
 use native.Mathlib.Omega.{arith}
 use borrow.Author.Rules.{rules}
 use Rattle.bounds.proofs.row_lengths.+possible.Goals as goal
+use Rattle.bounds.proofs.row_lengths.+possible.Goals.{in_default-via-then-kind-lt2, in_default-via-else-kind-lt2+else-kind-lt5}
 
 pub possible-a-requires : goal.possible-a-requires
 possible-a-requires t c = let f = p_falls c.row_at-r.ensures (search rules) {n = t} (search rules) (search rules) (search rules) in (f.0, (search rules, f.1))
@@ -40,4 +40,8 @@ pub returns-in-2-to-4 : goal.returns-in-2-to-4
 returns-in-2-to-4 t c = search (possible_edge, arith)
 
 pub returns-in_default : goal.returns-in_default
-returns-in_default t c = either c.in_default.branch (λ x. search (possible_low, arith)) (λ x. search (possible_high, arith))
+returns-in_default t c =
+    elim c.in_default.branch [
+      | in_default-via-then-kind-lt2 w ↦ search (possible_low, arith)
+      | in_default-via-else-kind-lt2+else-kind-lt5 w ↦ search (possible_high, arith)
+    ]
