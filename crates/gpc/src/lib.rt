@@ -28,7 +28,7 @@ fn is_short(report: &[u8]) -> bool
 // 01, 'Read an image'.
 #[unsafe(no_mangle)]
 pub extern "C" fn gpc_read_image(image: &[u8], report: &mut [u8]) -> u64
-    ensures* { λ r. ⌜ ◌≡◌ {A = ReadLeft} (record { result = r; report = report.new }) (read_image image.now report.old) ⌝ }
+    ensures { ◌≡◌ {A = ReadLeft} (record { result = result; report = report.new }) (read_image image.now report.old) }
 {
     if is_short(report) {
         return 0;
@@ -41,7 +41,7 @@ pub extern "C" fn gpc_read_image(image: &[u8], report: &mut [u8]) -> u64
 // 01, 'Check a pattern'; 02, Q-1: of every part of a query.
 #[unsafe(no_mangle)]
 pub extern "C" fn gpc_check_query(query: &[u16], types: &mut [u16], report: &mut [u8]) -> u64
-    ensures* { λ r. ⌜ ◌≡◌ {A = CheckLeft} (record { result = r; types = types.new; report = report.new }) (check_query query.now types.old report.old) ⌝ }
+    ensures { ◌≡◌ {A = CheckLeft} (record { result = result; types = types.new; report = report.new }) (check_query query.now types.old report.old) }
 {
     if is_short(report) {
         return 0;
@@ -111,7 +111,7 @@ pub extern "C" fn gpc_judge_record(
     work: &mut [u16],
     report: &mut [u8],
 ) -> u64
-    ensures* { λ r. ⌜ ◌≡◌ {A = JudgeLeft} (record { result = r; work = work.new; report = report.new }) (judge_record image.now query.now rec.now work.old report.old) ⌝ }
+    ensures { ◌≡◌ {A = JudgeLeft} (record { result = result; work = work.new; report = report.new }) (judge_record image.now query.now rec.now work.old report.old) }
 {
     let begun = begin(image, query, work, report);
     if begun < 2 {
@@ -132,7 +132,7 @@ pub extern "C" fn gpc_fill_page(
     work: &mut [u16],
     report: &mut [u8],
 ) -> u64
-    ensures* { λ r. ⌜ ◌≡◌ {A = Left} (record { result = r; sitting = sitting.exit.now; page = page.new; work = work.new; report = report.new }) (fill_page_lem image.now query.now bookmark.now (record { sitting = sitting.entry.now; page = page.old; work = work.old; report = report.old })) ⌝ }
+    ensures { ◌≡◌ {A = Left} (record { result = result; sitting = sitting.new; page = page.new; work = work.new; report = report.new }) (fill_page_lem image.now query.now bookmark.now (record { sitting = sitting.old; page = page.old; work = work.old; report = report.old })) }
 {
     if sitting::is_short(sitting) {
         return 0;
