@@ -1,7 +1,7 @@
 -- A query of one part without a name: its first cause, its listing, its pages and its verdicts are those of the pattern and the restrictor alone.
 -- So what the base's lister and judge promise is promised of such a query, with nothing proved again.
 use mathlib.Core.Path.{◌∙◌, ◌≡◌, ap, ap₂, refl, sym}
-use mathlib.Core.List.{List, [], ◌∷◌, append-nil}
+use mathlib.Core.List.{List, [], ◌++◌, ◌∷◌, append-nil}
 use mathlib.Core.Option.{Option, none, some}
 use mathlib.Core.Bool.{Bool, ◌&&◌, ◌||◌, false, not, true}
 use mathlib.Core.Logic.{◌≢◌}

@@ -1,10 +1,10 @@
 -- One name that opens every definition: `unfolding opened` under a signature lets the proof below compute with all of them.
 use native.Mathlib.Decide.{ℕ_discrete}
 use Rattle.meaning.specs.Basics.{same, max, each, only, keep, below, up_from, eight, at_most, lowest, first_of, rowless, at_row}
-use Rattle.meaning.specs.Graph.{row_goes, goes, labelled, src, tgt, len, linked}
+use Rattle.meaning.specs.Graph.{row_goes, goes, labelled, src, tgt, len, ◌·◌, linked}
 use Rattle.meaning.specs.Pattern.{named, in_condition, in_var, name_list, condition_vars, vars, edgeless, nesting}
 use Rattle.meaning.specs.Typing.{opt, single, fits, join_ty, union_ty, concatenation_ty, repetition_ty, named_ty, conditioned_ty, type_of}
-use Rattle.meaning.specs.Assignment.{Value-dec, count, bind, fill, path_of_lem, value_of, entries, collect, property_of, equality, holds}
+use Rattle.meaning.specs.Assignment.{Value-dec, count, bind, ◌∪◌, fill, path_of_lem, value_of, entries, collect, property_of, equality, holds}
 use Rattle.meaning.specs.Truth.{decided, negation, conjunction, disjunction, is_true}
 use Rattle.meaning.specs.Meaning.{Meaning, step_first, splits, agree, unifies, cut_first, cuts, chosen, node_at, edge_at, assignments}
 use Rattle.meaning.specs.Answer.{restrictor_of, on_edge_lem, on_node_lem, fresh, longer, paths_of, longest, paths, base_answers, beaten, shortest_of_lem, answers}

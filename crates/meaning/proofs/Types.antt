@@ -1,6 +1,6 @@
 -- Figure 2's rules and the computed types agree, both ways; and Definition 1, computed.
 use mathlib.Core.Path.{◌∙◌, ◌≡◌, ap, ap₂, refl, sym}
-use mathlib.Core.Bool.{Bool, false, true}
+use mathlib.Core.Bool.{Bool, ◌&&◌, false, true}
 use mathlib.Core.Logic.{◌↔◌, ◌≢◌}
 use Prim.Native.Nat.{suc, ℕ}
 use native.Mathlib.Omega.{arith}

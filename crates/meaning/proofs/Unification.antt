@@ -3,7 +3,7 @@ use mathlib.Core.Path.{◌∙◌, ◌≡◌, ap₂, refl, sym}
 use mathlib.Core.List.Memᴰ
 use mathlib.Core.List.{List, [], ◌∷◌}
 use mathlib.Core.Option.{Option, none, some}
-use mathlib.Core.Bool.{true}
+use mathlib.Core.Bool.{◌&&◌, true}
 use Prim.Native.Nat.{ℕ}
 use Rattle.meaning.proofs.Logic.{and_l, and_r, no_false, no_none, some_inj}
 use Rattle.meaning.proofs.Opened.{opened}

@@ -1,6 +1,6 @@
 -- The masks of a path, step by step; and what a test of them tells of the restrictor.
 use mathlib.Core.Path.{◌∙◌, ◌≡◌, ap, ap₂, sym}
-use mathlib.Core.Bool.{Bool, false, not, or_comm, true}
+use mathlib.Core.Bool.{Bool, ◌||◌, false, not, or_comm, true}
 use Prim.Native.Nat.{◌<◌, ℕ}
 use native.Mathlib.Omega.{arith}
 use lib.Dec.{eqb}
