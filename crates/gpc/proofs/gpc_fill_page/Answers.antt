@@ -10,10 +10,10 @@ pub returns-then-begun-lt2 : goal.returns-then-begun-lt2
 returns-then-begun-lt2 c = search (page_stopped, arith)
 
 pub fill_page-requires : goal.fill_page-requires
-fill_page-requires c = let begun = c.begin-begun.ensures in
+fill_page-requires c =
+    let begun = c.begin-begun.ensures in
     let on = c.if-begun-lt2.false in
-    let short = c in
-    (on_granted _ _ _ _ _ _ begun on, on_roomy _ _ _ _ _ _ begun on, on_sitting _ _ short.before.is-short.ensures short.if1.false, on_wide _ _ _ _ _ _ begun on)
+    (on_granted _ _ _ _ _ _ begun on, on_roomy _ _ _ _ _ _ begun on, on_sitting _ _ c.is_short.ensures c.if-is_short.false, on_wide _ _ _ _ _ _ begun on)
 
 pub returns : goal.returns
 returns c = search (page_answered, arith)
