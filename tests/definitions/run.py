@@ -18,15 +18,15 @@ ROOT = os.path.dirname(os.path.dirname(os.path.dirname(os.path.abspath(__file__)
 ENUMERATOR = os.path.join(ROOT, "tests/enumerator/target/release/enumerator")
 
 # The names of crates/meaning: the proof that opens every definition, and the operations with the files that define them.
-OPENED = ("QueryOpened", "query-opened")
-READ = ("Operations", "readImage")
-CHECK = ("QueryListing", "checkQuery")
-JUDGE = ("QueryListing", "judgeRecord")
-FILL = ("QueryListing", "fillPage")
+OPENED = ("QueryOpened", "query_opened")
+READ = ("Operations", "read_image")
+CHECK = ("QueryListing", "check_query")
+JUDGE = ("QueryListing", "judge_record")
+FILL = ("QueryListing", "fill_page_lem")
 
 HEAD = """-- Random calls, decided by the enumerator.
-use mathlib.Core.Path.{_≡_, refl}
-use mathlib.Core.List.{List, [], _∷_, _++_}
+use mathlib.Core.Path.{◌≡◌, refl}
+use mathlib.Core.List.{List, [], ◌∷◌, ◌++◌}
 use Prim.Native.Nat.{ℕ}
 use lib.ListN.{replicate}
 """
@@ -102,8 +102,8 @@ def equation(sort, case):
 
 
 def head():
-    uses = [f"use Rattle·meaning·proofs.proofs.{OPENED[0]}.{{{OPENED[1]}}}"]
-    uses += [f"use Rattle·meaning·specs.specs.{file}.{{{name}}}" for (file, name), _, _ in CALLS.values()]
+    uses = [f"use Rattle.meaning.proofs.{OPENED[0]}.{{{OPENED[1]}}}"]
+    uses += [f"use Rattle.meaning.specs.{file}.{{{name}}}" for (file, name), _, _ in CALLS.values()]
     return HEAD + "\n".join(uses) + "\n\n"
 
 
@@ -171,7 +171,7 @@ def module(seed, count):
 def evaluate(text):
     """The names of the equations that the prover refuses, and all that it wrote."""
     with tempfile.TemporaryDirectory() as folder:
-        shutil.copytree(os.path.join(ROOT, "crates/meaning"), os.path.join(folder, "crates/meaning"), ignore=shutil.ignore_patterns("must-fail"))
+        shutil.copytree(os.path.join(ROOT, "crates/meaning"), os.path.join(folder, "crates/meaning"), ignore=shutil.ignore_patterns("must-fail", "out"))
         with open(os.path.join(folder, "crates.txt"), "w") as crates:
             crates.write("meaning:\n")
         proofs = os.path.join(folder, "crates/meaning/proofs")
@@ -179,7 +179,7 @@ def evaluate(text):
             file.write(text)
         with open(os.path.join(proofs, "Lib.antt"), "a") as lib:
             lib.write("pub mod CallsTried\n")
-        run = subprocess.run(["rt", "dev", "meaning"], cwd=folder, capture_output=True, text=True, env=dict(os.environ, RT_CUT="0"))
+        run = subprocess.run(["rt", "check"], cwd=os.path.dirname(proofs), capture_output=True, text=True)
         said = run.stdout + run.stderr
         return set(re.findall(r"CallsTried\.antt:\d+:\d+: error: `([^`]+)`", said)), said
 
@@ -189,7 +189,7 @@ def main():
     count = int(sys.argv[2]) if len(sys.argv) > 2 else 40
     names, text = module(seed, count)
     refused, said = evaluate(text)
-    others = [line for line in said.splitlines() if "error: " in line and "CallsTried.antt" not in line]
+    others = [line for line in said.splitlines() if re.search(r"\berror(\[[\w-]+\])?: ", line) and "CallsTried.antt" not in line]
     if "wrong" not in refused or others:
         print("the calls were not evaluated:\n" + "\n".join(others or said.splitlines())[-3000:])
         print(f"0 passed, {len(names)} failed")

@@ -26,8 +26,7 @@ fn is_short(report: &[u8]) -> bool
 }
 
 // 01, 'Read an image'.
-#[unsafe(no_mangle)]
-pub extern "C" fn gpc_read_image(image: &[u8], report: &mut [u8]) -> u64
+pub fn gpc_read_image(image: &[u8], report: &mut [u8]) -> u64
     ensures { ◌≡◌ {A = ReadLeft} (record { result = result; report = report.new }) (read_image image.now report.old) }
 {
     if is_short(report) {
@@ -39,8 +38,7 @@ pub extern "C" fn gpc_read_image(image: &[u8], report: &mut [u8]) -> u64
 }
 
 // 01, 'Check a pattern'; 02, Q-1: of every part of a query.
-#[unsafe(no_mangle)]
-pub extern "C" fn gpc_check_query(query: &[u16], types: &mut [u16], report: &mut [u8]) -> u64
+pub fn gpc_check_query(query: &[u16], types: &mut [u16], report: &mut [u8]) -> u64
     ensures { ◌≡◌ {A = CheckLeft} (record { result = result; types = types.new; report = report.new }) (check_query query.now types.old report.old) }
 {
     if is_short(report) {
@@ -103,8 +101,7 @@ fn report_verdict(image: &[u8], query: &[u16], rec: &[u16], work: &mut [u16], re
 }
 
 // 01, 'Judge a record'.
-#[unsafe(no_mangle)]
-pub extern "C" fn gpc_judge_record(
+pub fn gpc_judge_record(
     image: &[u8],
     query: &[u16],
     rec: &[u16],
@@ -122,8 +119,7 @@ pub extern "C" fn gpc_judge_record(
 }
 
 // 01, 'Fill a page', with the sitting of 02, Q-3.
-#[unsafe(no_mangle)]
-pub extern "C" fn gpc_fill_page(
+pub fn gpc_fill_page(
     image: &[u8],
     query: &[u16],
     bookmark: &[u16],
