@@ -10,7 +10,7 @@ import sys
 
 MOST_PARAMETERS, MANY_PARAMETERS, OVER_MANY, MOST_LINES = 12, 8, 40, 40
 # what compiles a call, and the C boundary with the programs behind it
-READERS = {"image", "compiled", "calls", "gpc", "printing", "listing", "examples"}
+READERS = {"image", "compiled", "calls", "gpc", "gpc_c", "printing", "listing", "examples"}
 # places and sizes of the compiled words (crates/compiled/src/derived.rt); 8, 64 and the like are too common to look for
 LAYOUT = re.compile(r"(?<![\w.])(226|328|391|392|904|1008|1928|2128|2328|2528|3008)(?![\w.])")
 HEAD = re.compile(r'^( *)(?:pub )?(?:extern "C" )?fn (\w+)\s*\(', re.M)
@@ -44,7 +44,7 @@ def main():
     titles = list(rules)
     many = []
     users = users_of(above)
-    for path in sorted(crates.rglob("*.rt")):
+    for path in sorted(crates.glob("*/src/**/*.rt")):
         crate = path.parts[1]
         text = path.read_text(encoding="utf-8")
         for name, parameters, lines, body in functions(text):
@@ -60,7 +60,7 @@ def main():
                 rules[titles[1]].append("%s, %d lines" % (place, lines))
             if crate in users and crate not in READERS and any(reads_source(p) for p in parameters):
                 rules[titles[2]].append(place)
-    for path in sorted([*crates.rglob("*.rt"), *crates.rglob("*.antt")]):
+    for path in sorted([*crates.glob("*/src/**/*.rt"), *crates.glob("*/specs/**/*.antt"), *crates.glob("*/proofs/**/*.antt")]):
         if path.parts[1] in users and path.parts[1] != above:
             for number, line in enumerate(path.read_text(encoding="utf-8").split("\n"), 1):
                 if LAYOUT.search(line.split("--")[0].split("//")[0]):
@@ -80,7 +80,7 @@ def users_of(crate):
     for line in open("crates.txt", encoding="utf-8"):
         name, colon, rest = line.split("#")[0].partition(":")
         if colon:
-            needs[name.strip()] = rest.split()
+            needs[name.split()[0]] = rest.split()
     found = {crate}
     while True:
         more = {name for name, rest in needs.items() if found & set(rest)} | found

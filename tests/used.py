@@ -13,11 +13,13 @@ import sys
 
 ROOT = os.path.dirname(os.path.dirname(os.path.abspath(__file__)))
 IMPORT = re.compile(r"(?ms)^(?:pub )?use .*?(?:\}|$)")
-OURS = re.compile(r"(?s)(?:pub |ghost )?use Rattle·(\w+)(?:·\w+)?\.(specs|proofs)\.([^{\s]+?)(?:\.\{(.*)\}| as (\S+))?\s*$")
+OURS = re.compile(r"(?s)(?:pub |ghost )?use Rattle\.(\w+)\.(specs|proofs)\.([^{\s]+?)(?:\.\{(.*)\}| as (\S+))?\s*$")
+TACTIC = re.compile(r"(?s)#!?\[tactic\((.*?)\)\]")
 SIGNATURE = re.compile(r"^( *)(?:unfoldable |abbrev )*(pub )?(?:data |record )?(\S+)")
 ITEM = re.compile(r"(?m)^( *)pub (?:extern \"C\" )?(?:fn|struct|enum|const) (\w+)")
+OF_CODE = ("Proof", "Answers", "Invariants")
 EXAMPLES = ("Examples", "QueryExamples", "Rules")
-TOPS = ("gpc", "listing", "examples")
+TOPS = ("gpc_c", "listing", "examples")
 
 
 def groundwork():
@@ -26,7 +28,7 @@ def groundwork():
     for line in open(os.path.join(ROOT, "crates.txt")):
         name, found, rest = line.split("#")[0].partition(":")
         if found:
-            needs[name.strip()] = rest.split()
+            needs[name.split()[0]] = rest.split()
     used, queue = set(), list(TOPS)
     while queue:
         name = queue.pop()
@@ -37,9 +39,10 @@ def groundwork():
 
 
 def files(ending):
-    for folder, _, names in os.walk(os.path.join(ROOT, "crates")):
+    for folder, folders, names in os.walk(os.path.join(ROOT, "crates")):
+        folders[:] = [name for name in folders if name not in ("must-fail", "out")]
         for name in sorted(names):
-            if name.endswith(ending) and "must-fail" not in folder:
+            if name.endswith(ending):
                 yield os.path.join(folder, name)
 
 
@@ -54,8 +57,7 @@ def tokens(text):
 
 def spelled(name):
     """How a use of the name is told: an operator by its first part that is no place for an operand."""
-    parts = [part for part in name.split("_") if part]
-    return parts[0] if name.startswith("_") or name.endswith("_") else name
+    return next(part for part in name.split("◌") if part)
 
 
 class File:
@@ -76,7 +78,7 @@ class File:
             self.aliases[ours.group(5)] = ours.group(1, 2, 3)
             return
         names = re.search(r"\{(.*)\}", use, re.S)
-        for item in names.group(1).split(",") if names else ():
+        for item in filter(str.strip, names.group(1).split(",") if names else ()):
             name, _, new = item.strip().partition(" as ")
             self.imports[new or name] = (*ours.group(1, 2, 3), name) if ours else None
 
@@ -84,7 +86,7 @@ class File:
         current, indent = "", -1
         for line in text.split("\n"):
             words = line.split()
-            if not words or words[0] in ("infix", "infixl", "infixr") or "pub mod" in line:
+            if not words or words[0] in ("infix", "infixl", "infixr", "mod") or "pub mod" in line:
                 continue
             deep = len(line) - len(line.lstrip())
             if words[0] in ("module", "mutual") or words[:2] == ["unfoldable", "mutual"]:
@@ -143,14 +145,18 @@ class Tree:
     def roots(self, quoted):
         early = groundwork()
         for key, file in self.files.items():
-            whole = key[2].split(".")[-1] in ("Proof", *EXAMPLES) or key[2].startswith("declared.")
+            whole = key[2].split(".")[-1] in (*OF_CODE, *EXAMPLES)
             shown = file.public if key[0] in early else ()
             self.reach((key, n) for n in file.declared if whole or n == "module" or n in quoted or n in shown)
         for path in files(".rt"):
-            for use in re.findall(r"(?s)ghost use .*?;", open(path).read()):
+            text = open(path).read()
+            for use in re.findall(r"(?s)ghost use .*?;", text):
                 ours = OURS.match(use.rstrip(";"))
-                for item in ours.group(4).split(",") if ours else ():
-                    self.reach(self.origin((*ours.group(1, 2, 3), item.strip())))
+                for item in filter(str.strip, ours.group(4).split(",") if ours else ()):
+                    self.reach(self.origin((*ours.group(1, 2, 3), item.split()[0])))
+            for crate, kind, module, name in re.findall(r"(\w+)::(specs|proofs)::([\w:]+)::(\S+?)[,)]", " ".join(TACTIC.findall(text)) + ")"):
+                crate = os.path.relpath(path, ROOT).split(os.sep)[1] if crate == "crate" else crate
+                self.reach(self.origin((crate, kind, module.replace("::", "."), name)))
 
 
 def unused_antt(quoted):

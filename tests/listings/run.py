@@ -9,8 +9,14 @@ import sys
 
 ROOT = os.path.dirname(os.path.dirname(os.path.dirname(os.path.abspath(__file__))))
 ENUMERATOR = os.path.join(ROOT, "tests/enumerator/target/release/enumerator")
-PROGRAM = os.path.join(ROOT, "target/bin/listing")
+PROGRAM = "target/bin/listing"
 MOST_SHOWN = 20
+
+
+def built():
+    """The program, built anew where a source is newer."""
+    subprocess.run(["bash", "tests/proved", PROGRAM, "listing"], cwd=ROOT, check=True)
+    return os.path.join(ROOT, PROGRAM)
 
 
 def contents(dump):
@@ -45,7 +51,7 @@ def holds(program, case):
 def main():
     seed = int(sys.argv[1]) if len(sys.argv) > 1 else 1
     count = int(sys.argv[2]) if len(sys.argv) > 2 else 5000
-    program = sys.argv[3] if len(sys.argv) > 3 else PROGRAM
+    program = sys.argv[3] if len(sys.argv) > 3 else built()
     passed = failed = 0
     for case in cases(seed, count):
         if holds(program, case):
