@@ -85,7 +85,7 @@ module _ (t : List Row) (ok : (i : ℕ) → i < length t → fine t i (form_at t
       go false e = absurd (u.no_type (typed→ u.π (row_variables i h u.π u.item_is) e))
 
 -- ------------------------------------------------------------------ refused by 16
--- row i of a well_formed table has no type, and it is the lowest such row
+-- row i of a well-formed table has no type, and it is the lowest such row
 pub record LowestUntyped (t : List Row) (i : ℕ) : Type 0 where
   pub well_formed : WellFormed t
   pub is_row : i < length t
@@ -145,7 +145,7 @@ refused_16→ t i e =
       lower_typed = λ j h. row_typed→ t ok j (omega arith) (z.3 j (omega arith) h);
     }
 
--- a well_formed table has no cause but 16
+-- a well-formed table has no cause but 16
 pub formed_fault : (t : List Row) → WellFormed t → table_fault t ≡ row_cause t 16 (fault16 t)
 unfolding opened
 formed_fault t w =
