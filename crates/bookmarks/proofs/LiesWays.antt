@@ -29,7 +29,7 @@ module _ (b words : List ℕ) (end : ℕ) where
   lies_whole i s h = let e : i ≡ end = omega (arith, s.low) in record { skip_is = λ q. no_false q; on_is = λ q. rw e at s.way }
 
   -- one word more
-  module _ (i : ℕ) (s : OnSoFar b words end i) (h : i < end) (v : ℕ) (v-is : v ≡ get_or words i 0) (t : Turn) (z : TurnIs b i v t) where
+  module _ (i : ℕ) (s : OnSoFar b words end i) (h : i < end) (v : ℕ) (v_is : v ≡ get_or words i 0) (t : Turn) (z : TurnIs b i v t) where
     abbrev so_far : List ℕ
     so_far = take i words ++ v ∷ []
 
@@ -40,7 +40,7 @@ module _ (b words : List ℕ) (end : ℕ) where
     parts =
         split_at (take end words) i 0 (omega (arith, length-take-le end words s.room))
         ∙ (ap (λ (x : List ℕ). x ++ get_or (take end words) i 0 ∷ rest) (take-take i end words (omega arith))
-        ∙ (ap (λ (k : ℕ). take i words ++ k ∷ rest) (get_or-take end words i 0 h ∙ sym v-is) ∙ sym (append_snoc (take i words) v rest)))
+        ∙ (ap (λ (k : ℕ). take i words ++ k ∷ rest) (get_or-take end words i 0 h ∙ sym v_is) ∙ sym (append_snoc (take i words) v rest)))
 
     lie : Lies b so_far t
     lie = z.is (take i words) (length-take-le i words (omega (arith, s.room))) s.way
@@ -61,4 +61,4 @@ module _ (b words : List ℕ) (end : ℕ) where
     lies_more e f = record { low = omega arith; room = s.room; way = rw longer (rw (not_false t.on f) at (lie.on_is e)) }
       where
         longer : take (i + 1) words ≡ so_far
-        longer = ap (λ (k : ℕ). take k words) (add-one i) ∙ (take-suc words i 0 (omega (arith, s.room)) ∙ ap (λ (k : ℕ). take i words ++ k ∷ []) (sym v-is))
+        longer = ap (λ (k : ℕ). take k words) (add-one i) ∙ (take-suc words i 0 (omega (arith, s.room)) ∙ ap (λ (k : ℕ). take i words ++ k ∷ []) (sym v_is))

@@ -20,7 +20,7 @@ use Rattle.rows.proofs.Items.{item_concatenation, item_conditioned, item_edge, i
 use Rattle.rows.specs.Faults.{Stands}
 use Rattle.rows.specs.Rows.{Reads}
 use Rattle.rows.specs.declared.row.Row.{Row}
-use Rattle.search.proofs.PathWords.{len-join}
+use Rattle.search.proofs.PathWords.{len_join}
 use Rattle.table.proofs.Descent.{shown}
 use Rattle.table.specs.Variables.{pattern_at_lem}
 use Rattle.bounds.specs.Rows.{Possible}
@@ -34,7 +34,7 @@ factors_sum : (G : Graph) (π : Pattern) (S : ℕ → Bool) → ((p : Walk) (μ 
 unfolding matcher_opened SumOf
 factors_sum G π S h [] p m (u, b, q) l = ap len q
 factors_sum G π S h (f ∷ fs) p m (q, pr, tg, pe) l =
-    let e : len p ≡ len f.0 + len q = ap len pe ∙ len-join f.0 q in
+    let e : len p ≡ len f.0 + len q = ap len pe ∙ len_join f.0 q in
     (len f.0, len q, h f.0 f.1 m.0 (omega arith), factors_sum G π S h fs q m.1 pr (omega arith), e)
 
 module _ (pattern : List ℕ) (row : ℕ) (r : Row) (d : Reads pattern row r) (st : Stands pattern row) where
@@ -68,7 +68,7 @@ module _ (pattern : List ℕ) (row : ℕ) (r : Row) (d : Reads pattern row r) (s
   pub possible_concatenation : (a b w : List ℕ) → r.kind ≡ 6 → Possible pattern r.p a → Possible pattern r.q b → Sums (set_of a) (set_of b) (set_of w) → Possible pattern row w
   unfolding matcher_opened
   possible_concatenation a b w k f g s = possible_of (concatenation (pattern_at_lem pattern r.p) (pattern_at_lem pattern r.q)) (shown pattern row _ (item_concatenation pattern row r d st.formed st.room k)) w (λ G p μ m l.
-      let i : len p ≡ len m.p₁ + len m.p₂ = ap len m.path_is ∙ len-join m.p₁ m.p₂ in
+      let i : len p ≡ len m.p₁ + len m.p₂ = ap len m.path_is ∙ len_join m.p₁ m.p₂ in
       ap (set_of w) i ∙ s.is (len m.p₁) (len m.p₂) (f.is G m.p₁ m.μ₁ m.first (omega arith)) (g.is G m.p₂ m.μ₂ m.second (omega arith)) (omega arith))
 
   pub possible_conditioned : (w : List ℕ) → r.kind ≡ 7 → Possible pattern r.p w → Possible pattern row w

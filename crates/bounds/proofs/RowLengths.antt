@@ -23,7 +23,7 @@ use Rattle.rows.proofs.Items.{item_concatenation, item_conditioned, item_edge, i
 use Rattle.rows.specs.Faults.{Stands}
 use Rattle.rows.specs.Rows.{Reads}
 use Rattle.rows.specs.declared.row.Row.{Row}
-use Rattle.search.proofs.PathWords.{len-join}
+use Rattle.search.proofs.PathWords.{len_join}
 use Rattle.table.proofs.Descent.{shown}
 use Rattle.table.specs.Variables.{pattern_at_lem}
 use Rattle.bounds.specs.Numbers.{Capped, Greater, Smaller}
@@ -119,7 +119,7 @@ module _ (pattern : List ℕ) (row : ℕ) (r : Row) (d : Reads pattern row r) (s
   unfolding matcher_opened
   most_concatenation a b x k f g c = most_of (concatenation (pattern_at_lem pattern r.p) (pattern_at_lem pattern r.q)) (shown pattern row _ (item_concatenation pattern row r d st.formed st.room k)) x c.small (λ l G p μ m.
       let e : x ≡ a + b = c.is l in
-      let i : len p ≡ len m.p₁ + len m.p₂ = ap len m.path_is ∙ len-join m.p₁ m.p₂ in
+      let i : len p ≡ len m.p₁ + len m.p₂ = ap len m.path_is ∙ len_join m.p₁ m.p₂ in
       let u : len m.p₁ ≤ a = f.is (omega arith) G m.p₁ m.μ₁ m.first in
       let v : len m.p₂ ≤ b = g.is (omega arith) G m.p₂ m.μ₂ m.second in
       omega arith)
@@ -128,7 +128,7 @@ module _ (pattern : List ℕ) (row : ℕ) (r : Row) (d : Reads pattern row r) (s
   unfolding matcher_opened
   fewest_concatenation a b x k f g c = fewest_of (concatenation (pattern_at_lem pattern r.p) (pattern_at_lem pattern r.q)) (shown pattern row _ (item_concatenation pattern row r d st.formed st.room k)) x c.small (λ G p μ m.
       let e : x ≤ a + b = c.low in
-      let i : len p ≡ len m.p₁ + len m.p₂ = ap len m.path_is ∙ len-join m.p₁ m.p₂ in
+      let i : len p ≡ len m.p₁ + len m.p₂ = ap len m.path_is ∙ len_join m.p₁ m.p₂ in
       let u : a ≤ len m.p₁ = f.is G m.p₁ m.μ₁ m.first in
       let v : b ≤ len m.p₂ = g.is G m.p₂ m.μ₂ m.second in
       omega arith)

@@ -11,7 +11,7 @@ use lib.Seq.{ext_get_or, get_or-drop, get_or-set_other, get_or-set_same, get_or-
 use borrow.Author.Tests.{eqb-true, ltb-true}
 use Rattle.meaning.specs.Answer.{restrictor_of}
 use Rattle.meaning.specs.Basics.{up_from}
-use Rattle.meaning.specs.Graph.{EdgeRow, Element, Graph, theEdge, theNode}
+use Rattle.meaning.specs.Graph.{EdgeRow, Element, Graph, the_edge, the_node}
 use Rattle.meaning.specs.Image.{edge_count, edge_row, element_number, graph_of, image_fault, label_cell_lem, label_count, node_count, pair_less_lem, property_cell_lem, property_count, some_row_lem}
 use Rattle.meaning.specs.Image as img
 use Rattle.meaning.specs.Table.{pattern_fault}
@@ -103,8 +103,8 @@ same_some (suc n) f h k = ap₂ ◌||◌ (k n (omega arith)) (same_some n f h (�
 module _ (image g : List ℕ) (k : Copied image g) where
   same_number : (x : Element) → number_in g x ≡ element_number image x
   unfolding number_in element_number
-  same_number (theNode n) = refl
-  same_number (theEdge e) = rw k.nodes
+  same_number (the_node n) = refl
+  same_number (the_edge e) = rw k.nodes
 
   same_label : (x : Element) (l i : ℕ) → i < label_count image → names (get_or g (208 + i) 0) (number_in g x) l ≡ (eqb (label_cell_lem image i 0) (element_number image x) && eqb (label_cell_lem image i 1) l)
   unfolding names

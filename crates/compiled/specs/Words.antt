@@ -2,7 +2,7 @@
 use Rattle.std.specs.Prelude.{List, map, Bool, true, false, ◌&&◌, ℕ, zero, suc, ◌+◌, ◌/◌, ◌%◌, eqb, ltb, get_or}
 use Rattle.std.proofs.Math.Option.{Option, none, some}
 use Rattle.meaning.specs.Basics.{up_from}
-use Rattle.meaning.specs.Graph.{Element, theNode, theEdge, EdgeRow, Graph}
+use Rattle.meaning.specs.Graph.{Element, the_node, the_edge, EdgeRow, Graph}
 use Rattle.meaning.specs.Image.{some_row_lem}
 
 -- ------------------------------------------------------------------ one word
@@ -40,8 +40,8 @@ module _ (g : List ℕ) where
 
   -- element n below N is node n, element N + e is edge e
   unfoldable pub number_in : Element → ℕ
-  number_in (theNode n) = n
-  number_in (theEdge e) = nodes_in_lem + e
+  number_in (the_node n) = n
+  number_in (the_edge e) = nodes_in_lem + e
 
   -- of the n words from `at` on
   unfoldable pub some_names : ℕ → ℕ → ℕ → ℕ → Bool

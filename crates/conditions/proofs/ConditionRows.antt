@@ -6,7 +6,7 @@ use Prim.Native.Nat.{ℕ, ◌<◌, ◌≤◌}
 use native.Mathlib.Omega.{arith}
 use lib.Dec.{eqb, leb, ltb}
 use borrow.Author.Tests.{leb-true}
-use Rattle.meaning.specs.Table.{Form, Item, as_condition, condition_item_lem, condition_form, condition_row, fine, form, form_at, isAnd, is_bad, isConcatenation, isConditioned, is_constant, is_edge, is_node_lem, is_not, isOr, is_property, is_repetition, isUnion, is_variable_lem, item_at, make, no_item, pattern_item, rows_of, if_zero}
+use Rattle.meaning.specs.Table.{Form, Item, as_condition, condition_item_lem, condition_form, condition_row, fine, form, form_at, is_and, is_bad, is_concatenation, is_conditioned, is_constant, is_edge, is_node_lem, is_not, is_or, is_property, is_repetition, is_union, is_variable_lem, item_at, make, no_item, pattern_item, rows_of, if_zero}
 use Rattle.meaning.specs.Table.{Row as RowOf}
 use Rattle.meaning.specs.Pattern.{Condition}
 use Rattle.meaning.proofs.Logic.{and_l, and_r, no_false}
@@ -23,14 +23,14 @@ made_condition : (g : ℕ → Item) (f : Form) → condition_form f ≡ true →
 unfolding condition_form make as_condition
 made_condition g (is_node_lem x l) e = no_false e
 made_condition g (is_edge d x l) e = no_false e
-made_condition g (isUnion p q) e = no_false e
-made_condition g (isConcatenation p q) e = no_false e
-made_condition g (isConditioned p q) e = no_false e
+made_condition g (is_union p q) e = no_false e
+made_condition g (is_concatenation p q) e = no_false e
+made_condition g (is_conditioned p q) e = no_false e
 made_condition g (is_repetition p r s) e = no_false e
 made_condition g (is_constant x k c) e = refl
 made_condition g (is_property x k y l) e = refl
-made_condition g (isAnd p q) e = refl
-made_condition g (isOr p q) e = refl
+made_condition g (is_and p q) e = refl
+made_condition g (is_or p q) e = refl
 made_condition g (is_not p) e = refl
 made_condition g is_bad e = no_false e
 
@@ -43,14 +43,14 @@ made_by : (g : ℕ → Item) (f : Form) → is_condition_lem (make g f) ≡ cond
 unfolding condition_form make is_condition_lem
 made_by g (is_node_lem x l) = refl
 made_by g (is_edge d x l) = refl
-made_by g (isUnion p q) = refl
-made_by g (isConcatenation p q) = refl
-made_by g (isConditioned p q) = refl
+made_by g (is_union p q) = refl
+made_by g (is_concatenation p q) = refl
+made_by g (is_conditioned p q) = refl
 made_by g (is_repetition p r s) = refl
 made_by g (is_constant x k c) = refl
 made_by g (is_property x k y l) = refl
-made_by g (isAnd p q) = refl
-made_by g (isOr p q) = refl
+made_by g (is_and p q) = refl
+made_by g (is_or p q) = refl
 made_by g (is_not p) = refl
 made_by g is_bad = refl
 
@@ -119,11 +119,11 @@ module _ (pattern : List ℕ) (row : ℕ) (r : Row) (d : Reads pattern row r) (s
   -- the rows that a connective names
   and_rows : r.kind ≡ 18 → (condition_row (rows_of pattern) row r.p && condition_row (rows_of pattern) row r.q) ≡ true
   unfolding form fine
-  and_rows e = by_kind 18 e (eqb r.r 0 && eqb r.s 0) (isAnd r.p r.q) refl
+  and_rows e = by_kind 18 e (eqb r.r 0 && eqb r.s 0) (is_and r.p r.q) refl
 
   or_rows : r.kind ≡ 19 → (condition_row (rows_of pattern) row r.p && condition_row (rows_of pattern) row r.q) ≡ true
   unfolding form fine
-  or_rows e = by_kind 19 e (eqb r.r 0 && eqb r.s 0) (isOr r.p r.q) refl
+  or_rows e = by_kind 19 e (eqb r.r 0 && eqb r.s 0) (is_or r.p r.q) refl
 
   pub and_first : r.kind ≡ 18 → condition_row (rows_of pattern) row r.p ≡ true
   and_first e = and_l (condition_row (rows_of pattern) row r.p) (condition_row (rows_of pattern) row r.q) (and_rows e)

@@ -93,8 +93,8 @@ module _ (words : List ℕ) (shape : Shape) (x : ℕ) (low : 1 ≤ x) (i at : �
   unfolding query_slot_words query_value_words
   named_stands a l h = record {
     high = h.high;
-    is = λ end ps-l ps s p.
-        let (ps₀, q, ps₁, e, c, z) = named_path x low shape i f ps-l ps s (p.count ∙ s.parts_is) l in
+    is = λ end ps_l ps s p.
+        let (ps₀, q, ps₁, e, c, z) = named_path x low shape i f ps_l ps s (p.count ∙ s.parts_is) l in
         rw z (h.is shape.parts end ps₀ q ps₁ (rw (← e) p) c);
   }
 
@@ -102,7 +102,7 @@ module _ (words : List ℕ) (shape : Shape) (x : ℕ) (low : 1 ≤ x) (i at : �
   unfolding query_slot_words
   none_named r l = record {
     high = r;
-    is = λ end ps-l ps s p. rw (named_nothing x low shape i f ps-l ps s (p.count ∙ s.parts_is) l) (record { yes_is = λ e. refl; no_is = λ e. no_true e });
+    is = λ end ps_l ps s p. rw (named_nothing x low shape i f ps_l ps s (p.count ∙ s.parts_is) l) (record { yes_is = λ e. refl; no_is = λ e. no_true e });
   }
 
 -- ------------------------------------------------------------------ all names

@@ -34,12 +34,12 @@ appended own words own' n b c f e =
       is = ap (take (n + (c - b))) e ∙ take_at (take n own ++ s) (drop (n + length s) own) (n + (c - b)) (omega (arith, length-append (take n own) s));
     }
 
-module _ (plan own words : List ℕ) (x n b c t : ℕ) (t-is : t ≡ code_of (type_of (pattern_in_lem plan) x)) where
+module _ (plan own words : List ℕ) (x n b c t : ℕ) (t_is : t ≡ code_of (type_of (pattern_in_lem plan) x)) where
   pub value_left_out : t ≡ 0 → ValueAppended plan own words x n b c own n
-  value_left_out e = record { high = omega arith; is = rw (type_unused (pattern_in_lem plan) x t t-is e) (sym (append-nil (take n own))) }
+  value_left_out e = record { high = omega arith; is = rw (type_unused (pattern_in_lem plan) x t t_is e) (sym (append-nil (take n own))) }
 
   pub value_appended : (own' : List ℕ) (r : ℕ) → (t ≡ 0 → ⊥) → Appended own words n b c own' r → ValueAppended plan own words x n b c own' r
-  value_appended own' r e h = record { high = omega (arith, h.end_is); is = rw (type_used (pattern_in_lem plan) x t t-is e) h.is }
+  value_appended own' r e h = record { high = omega (arith, h.end_is); is = rw (type_used (pattern_in_lem plan) x t t_is e) h.is }
 
 -- ------------------------------------------------------------------ all values
 -- the words of the path, front, and the values of the variables below x are written; the others stand from place on

@@ -76,10 +76,10 @@ module _ (graph plan rec : List ℕ) (last : ℕ) (s : Sound graph plan) (T : To
       let k : Shortest true (graph_in graph) (base_in plan) (pattern_in_lem plan) (told rec last) = rw (z, path_is) at h.shortest in
       omega (arith, k j.path j.assignment j.answer (j.source_is ∙ sym src_is) (j.target_is ∙ sym tgt_is), j.length_is, len_is)
 
-  module _ (b : BaseNamed) (b-is : base_of b ≡ (restrictor_in plan).base) (r : Bool) (p : RepeatsNothing rec last b r) where
+  module _ (b : BaseNamed) (b_is : base_of b ≡ (restrictor_in plan).base) (r : Bool) (p : RepeatsNothing rec last b r) where
     -- what was tested is the restrictor's base
     base_test : judge_words_lem (graph_in graph) eight (pattern_in_lem plan) rec ≡ true → r ≡ unrepeated (base_in plan) (path_in_lem rec)
-    base_test j = p.is (small j) ∙ (ap (λ (q : Walk). unrepeated (base_of b) q) (sym path_is) ∙ ap (λ (ρ : Base). unrepeated ρ (path_in_lem rec)) b-is)
+    base_test j = p.is (small j) ∙ (ap (λ (q : Walk). unrepeated (base_of b) q) (sym path_is) ∙ ap (λ (ρ : Base). unrepeated ρ (path_in_lem rec)) b_is)
 
     pub repeated : r ≡ false → JudgedAnswer graph plan rec false
     repeated e = record { is = λ j. says_no graph plan rec (λ m. no_true (sym (taken graph plan rec s m).repeats_nothing ∙ (sym (base_test j) ∙ e))) }

@@ -38,9 +38,9 @@ module _ (graph plan fit rec : List ℕ) (last : ℕ) (h : Prepared graph plan f
   pub row_few : (k : ℕ) → k ≡ length (table_in plan) / 5 → k - 1 < 64
   row_few k e = omega (arith, (root_matchable graph plan fit rec (length rec) last h).1.1)
 
-  module _ (k : ℕ) (k-is : k ≡ length (table_in plan) / 5) (at : List ℕ) (end : ℕ) (s₀ : Slotted (take (length rec) rec) (drop (types_at (k - 1)) plan) (2 * last + 2) at end) where
+  module _ (k : ℕ) (k_is : k ≡ length (table_in plan) / 5) (at : List ℕ) (end : ℕ) (s₀ : Slotted (take (length rec) rec) (drop (types_at (k - 1)) plan) (2 * last + 2) at end) where
     s : Slotted (take (length rec) rec) (drop (types_at (root (table_in plan))) plan) (2 * last + 2) at end
-    s = rw k-is at s₀
+    s = rw k_is at s₀
 
     -- the values end where the words end
     ends_there : at_end_lem (after_slots eight (type_of (pattern_in_lem plan)) (skip (2 * last + 1) (drop 1 rec))) ≡ eqb end (length rec)

@@ -12,7 +12,7 @@ use Rattle.meaning.proofs.Opened.{opened}
 use Rattle.meaning.proofs.Rows.{every_row, pattern_below}
 use Rattle.meaning.specs.Basics.{if◌then◌else◌, max}
 use Rattle.meaning.specs.Pattern.{Sound, edgeless, nesting}
-use Rattle.meaning.specs.Table.{Form, Item, Row, as_pattern, condition_item_lem, condition_row, fault14, fault15, fine, form_at, isAnd, is_bad, isConcatenation, isConditioned, is_constant, is_edge, is_node_lem, is_not, isOr, is_property, is_repetition, isUnion, item_at, make, no_item, on_pattern, pattern_item, pattern_row_lem, repeats, two_deep}
+use Rattle.meaning.specs.Table.{Form, Item, Row, as_pattern, condition_item_lem, condition_row, fault14, fault15, fine, form_at, is_and, is_bad, is_concatenation, is_conditioned, is_constant, is_edge, is_node_lem, is_not, is_or, is_property, is_repetition, is_union, item_at, make, no_item, on_pattern, pattern_item, pattern_row_lem, repeats, two_deep}
 
 abbrev SoundItem : Item → Type 0
 SoundItem (pattern_item π) = Sound π
@@ -51,14 +51,14 @@ module _ (t : List Row) (ok : (i : ℕ) → i < length t → fine t i (form_at t
     unfolding opened
     sound_row i h ih (is_node_lem x l) e q = tt
     sound_row i h ih (is_edge d x l) e q = tt
-    sound_row i h ih (isUnion p r) e q = (sound_pattern (item_at t p) (ih p (pattern_below t i p (and_l (pattern_row_lem t i p) (pattern_row_lem t i r) e))), sound_pattern (item_at t r) (ih r (pattern_below t i r (and_r (pattern_row_lem t i p) (pattern_row_lem t i r) e))))
-    sound_row i h ih (isConcatenation p r) e q = (sound_pattern (item_at t p) (ih p (pattern_below t i p (and_l (pattern_row_lem t i p) (pattern_row_lem t i r) e))), sound_pattern (item_at t r) (ih r (pattern_below t i r (and_r (pattern_row_lem t i p) (pattern_row_lem t i r) e))))
-    sound_row i h ih (isConditioned p r) e q = sound_pattern (item_at t p) (ih p (pattern_below t i p (and_l (pattern_row_lem t i p) (condition_row t i r) e)))
+    sound_row i h ih (is_union p r) e q = (sound_pattern (item_at t p) (ih p (pattern_below t i p (and_l (pattern_row_lem t i p) (pattern_row_lem t i r) e))), sound_pattern (item_at t r) (ih r (pattern_below t i r (and_r (pattern_row_lem t i p) (pattern_row_lem t i r) e))))
+    sound_row i h ih (is_concatenation p r) e q = (sound_pattern (item_at t p) (ih p (pattern_below t i p (and_l (pattern_row_lem t i p) (pattern_row_lem t i r) e))), sound_pattern (item_at t r) (ih r (pattern_below t i r (and_r (pattern_row_lem t i p) (pattern_row_lem t i r) e))))
+    sound_row i h ih (is_conditioned p r) e q = sound_pattern (item_at t p) (ih p (pattern_below t i p (and_l (pattern_row_lem t i p) (condition_row t i r) e)))
     sound_row i h ih (is_repetition p r s) e q = (sound_pattern (item_at t p) (ih p (pattern_below t i p (and_l (pattern_row_lem t i p) (leb r 65534 && leb r s) e))), ap (on_pattern (repeats edgeless)) (sym q) ∙ bodies i h)
     sound_row i h ih (is_constant x k c) e q = tt
     sound_row i h ih (is_property x k y l) e q = tt
-    sound_row i h ih (isAnd p r) e q = tt
-    sound_row i h ih (isOr p r) e q = tt
+    sound_row i h ih (is_and p r) e q = tt
+    sound_row i h ih (is_or p r) e q = tt
     sound_row i h ih (is_not p) e q = tt
     sound_row i h ih is_bad e q = tt
 
@@ -71,14 +71,14 @@ module _ (t : List Row) (ok : (i : ℕ) → i < length t → fine t i (form_at t
     unfolding opened
     deep_row i h ih (is_node_lem x l) e q = omega arith
     deep_row i h ih (is_edge d x l) e q = omega arith
-    deep_row i h ih (isUnion p r) e q = max_bound (nesting (as_pattern (item_at t p))) (nesting (as_pattern (item_at t r))) 2 (deep_pattern (item_at t p) (ih p (pattern_below t i p (and_l (pattern_row_lem t i p) (pattern_row_lem t i r) e)))) (deep_pattern (item_at t r) (ih r (pattern_below t i r (and_r (pattern_row_lem t i p) (pattern_row_lem t i r) e))))
-    deep_row i h ih (isConcatenation p r) e q = max_bound (nesting (as_pattern (item_at t p))) (nesting (as_pattern (item_at t r))) 2 (deep_pattern (item_at t p) (ih p (pattern_below t i p (and_l (pattern_row_lem t i p) (pattern_row_lem t i r) e)))) (deep_pattern (item_at t r) (ih r (pattern_below t i r (and_r (pattern_row_lem t i p) (pattern_row_lem t i r) e))))
-    deep_row i h ih (isConditioned p r) e q = deep_pattern (item_at t p) (ih p (pattern_below t i p (and_l (pattern_row_lem t i p) (condition_row t i r) e)))
+    deep_row i h ih (is_union p r) e q = max_bound (nesting (as_pattern (item_at t p))) (nesting (as_pattern (item_at t r))) 2 (deep_pattern (item_at t p) (ih p (pattern_below t i p (and_l (pattern_row_lem t i p) (pattern_row_lem t i r) e)))) (deep_pattern (item_at t r) (ih r (pattern_below t i r (and_r (pattern_row_lem t i p) (pattern_row_lem t i r) e))))
+    deep_row i h ih (is_concatenation p r) e q = max_bound (nesting (as_pattern (item_at t p))) (nesting (as_pattern (item_at t r))) 2 (deep_pattern (item_at t p) (ih p (pattern_below t i p (and_l (pattern_row_lem t i p) (pattern_row_lem t i r) e)))) (deep_pattern (item_at t r) (ih r (pattern_below t i r (and_r (pattern_row_lem t i p) (pattern_row_lem t i r) e))))
+    deep_row i h ih (is_conditioned p r) e q = deep_pattern (item_at t p) (ih p (pattern_below t i p (and_l (pattern_row_lem t i p) (condition_row t i r) e)))
     deep_row i h ih (is_repetition p r s) e q = let z : nesting (as_pattern (item_at t p)) < 2 = leb-false 2 (nesting (as_pattern (item_at t p))) (ap (on_pattern (repeats two_deep)) (sym q) ∙ flat i h) in omega arith
     deep_row i h ih (is_constant x k c) e q = tt
     deep_row i h ih (is_property x k y l) e q = tt
-    deep_row i h ih (isAnd p r) e q = tt
-    deep_row i h ih (isOr p r) e q = tt
+    deep_row i h ih (is_and p r) e q = tt
+    deep_row i h ih (is_or p r) e q = tt
     deep_row i h ih (is_not p) e q = tt
     deep_row i h ih is_bad e q = tt
 

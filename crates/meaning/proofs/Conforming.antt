@@ -17,7 +17,7 @@ use Rattle.meaning.proofs.Size.{len_append, non_empty_len}
 use Rattle.meaning.proofs.Unused.{absent→unused, typed→used, unused→absent}
 use Rattle.meaning.specs.Assignment.{AllOf, Assignment, Conforms, Factor, Of, Value, bind, count, entries, group, nothing, one, path_of_lem, value_of}
 use Rattle.meaning.specs.Basics.{All, if◌then◌else◌, or_else}
-use Rattle.meaning.specs.Graph.{Graph, Valid, Walk, len, theEdge, theNode}
+use Rattle.meaning.specs.Graph.{Graph, Valid, Walk, len, the_edge, the_node}
 use Rattle.meaning.specs.Meaning.{Meaning, Product}
 use Rattle.meaning.specs.Pattern.{Pattern, Sound, concatenation, conditioned, edge, in_condition, in_var, named, node, repetition, union}
 use Rattle.meaning.specs.Typing.{Edge, Found, Group, Maybe, Node, Ty, Ty-discrete, absent, clash, concatenation_ty, conditioned_ty, fits, join_ty, named_ty, opt, repetition_ty, type_of, typed, union_ty}
@@ -150,8 +150,8 @@ module _ (G : Graph) (valid : Valid G) (k : ℕ) where
 
   pub conforms : (π : Pattern) → Sound π → (p : Walk) (μ : Assignment) → Meaning G π p μ → len p ≤ k → (x : ℕ) → Fit (type_of π x) (μ x)
   unfolding opened
-  conforms (node y l) s p μ h b x = at (type_of (node y l) x) x h.assignment_is (bind_conf G.nodes (length G.edges) k y x Node (one (theNode h.n)) (h.n, h.is_node, refl))
-  conforms (edge d y l) s p μ h b x = at (type_of (edge d y l) x) x h.assignment_is (bind_conf G.nodes (length G.edges) k y x Edge (one (theEdge h.e)) (h.e, (goes_found G valid d h.e h.u₁ h.u₂ h.connects).at, refl))
+  conforms (node y l) s p μ h b x = at (type_of (node y l) x) x h.assignment_is (bind_conf G.nodes (length G.edges) k y x Node (one (the_node h.n)) (h.n, h.is_node, refl))
+  conforms (edge d y l) s p μ h b x = at (type_of (edge d y l) x) x h.assignment_is (bind_conf G.nodes (length G.edges) k y x Edge (one (the_edge h.e)) (h.e, (goes_found G valid d h.e h.u₁ h.u₂ h.connects).at, refl))
   conforms (union a c) s p μ h b x = at (type_of (union a c) x) x h.assignment_is (either h.either
       (λ r. union_left G.nodes (length G.edges) k (type_of a x) (type_of c x) (h.ν x) (in_var (union a c) x) (absent→unused (union a c) x) (λ τ e. typed→used (union a c) x e) (conforms a s.0 p h.ν r b x))
       (λ r. union_right G.nodes (length G.edges) k (type_of a x) (type_of c x) (h.ν x) (in_var (union a c) x) (absent→unused (union a c) x) (λ τ e. typed→used (union a c) x e) (conforms c s.1 p h.ν r b x)))

@@ -14,7 +14,7 @@ use Rattle.meaning.proofs.Members.{each→}
 use Rattle.meaning.proofs.Opened.{opened}
 use Rattle.meaning.proofs.Rows.{condition_below, pattern_below}
 use Rattle.meaning.specs.Basics.{◌∈◌, each, if◌then◌else◌}
-use Rattle.meaning.specs.Table.{Form, Row, condition_row, fault13, fine, form, form_at, isAnd, is_bad, isConcatenation, isConditioned, is_constant, is_edge, is_node_lem, is_not, isOr, is_property, is_repetition, isUnion, names_of, no_row, pattern_form, pattern_row_lem, times}
+use Rattle.meaning.specs.Table.{Form, Row, condition_row, fault13, fine, form, form_at, is_and, is_bad, is_concatenation, is_conditioned, is_constant, is_edge, is_node_lem, is_not, is_or, is_property, is_repetition, is_union, names_of, no_row, pattern_form, pattern_row_lem, times}
 
 times_member : (x : ℕ) (l : List ℕ) → times x l ≢ 0 → x ∈ l
 unfolding opened
@@ -53,14 +53,14 @@ module _ (t : List Row) where
   unfolding opened
   names_below j i (is_node_lem x l) e m = absurd (Memᴰ.not-nil m)
   names_below j i (is_edge d x l) e m = absurd (Memᴰ.not-nil m)
-  names_below j i (isUnion p q) e m = both_below (pattern_below t j p (and_l (pattern_row_lem t j p) (pattern_row_lem t j q) e)) (pattern_below t j q (and_r (pattern_row_lem t j p) (pattern_row_lem t j q) e)) m
-  names_below j i (isConcatenation p q) e m = both_below (pattern_below t j p (and_l (pattern_row_lem t j p) (pattern_row_lem t j q) e)) (pattern_below t j q (and_r (pattern_row_lem t j p) (pattern_row_lem t j q) e)) m
-  names_below j i (isConditioned p q) e m = both_below (pattern_below t j p (and_l (pattern_row_lem t j p) (condition_row t j q) e)) (condition_below t j q (and_r (pattern_row_lem t j p) (condition_row t j q) e)) m
+  names_below j i (is_union p q) e m = both_below (pattern_below t j p (and_l (pattern_row_lem t j p) (pattern_row_lem t j q) e)) (pattern_below t j q (and_r (pattern_row_lem t j p) (pattern_row_lem t j q) e)) m
+  names_below j i (is_concatenation p q) e m = both_below (pattern_below t j p (and_l (pattern_row_lem t j p) (pattern_row_lem t j q) e)) (pattern_below t j q (and_r (pattern_row_lem t j p) (pattern_row_lem t j q) e)) m
+  names_below j i (is_conditioned p q) e m = both_below (pattern_below t j p (and_l (pattern_row_lem t j p) (condition_row t j q) e)) (condition_below t j q (and_r (pattern_row_lem t j p) (condition_row t j q) e)) m
   names_below j i (is_repetition p r s) e m = one_below (pattern_below t j p (and_l (pattern_row_lem t j p) (leb r 65534 && leb r s) e)) m
   names_below j i (is_constant x k c) e m = absurd (Memᴰ.not-nil m)
   names_below j i (is_property x k y l) e m = absurd (Memᴰ.not-nil m)
-  names_below j i (isAnd p q) e m = both_below (condition_below t j p (and_l (condition_row t j p) (condition_row t j q) e)) (condition_below t j q (and_r (condition_row t j p) (condition_row t j q) e)) m
-  names_below j i (isOr p q) e m = both_below (condition_below t j p (and_l (condition_row t j p) (condition_row t j q) e)) (condition_below t j q (and_r (condition_row t j p) (condition_row t j q) e)) m
+  names_below j i (is_and p q) e m = both_below (condition_below t j p (and_l (condition_row t j p) (condition_row t j q) e)) (condition_below t j q (and_r (condition_row t j p) (condition_row t j q) e)) m
+  names_below j i (is_or p q) e m = both_below (condition_below t j p (and_l (condition_row t j p) (condition_row t j q) e)) (condition_below t j q (and_r (condition_row t j p) (condition_row t j q) e)) m
   names_below j i (is_not p) e m = one_below (condition_below t j p e) m
   names_below j i is_bad e m = absurd (Memᴰ.not-nil m)
 

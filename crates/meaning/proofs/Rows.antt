@@ -11,7 +11,7 @@ use lib.Seq.{get_or_at}
 use borrow.Author.Tests.{eqb-false, eqb-true, ltb-true}
 use Rattle.meaning.proofs.Logic.{and_l, and_r}
 use Rattle.meaning.proofs.Opened.{opened}
-use Rattle.meaning.specs.Table.{Form, Item, Row, condition_form, condition_row, fine, form_at, isAnd, is_bad, isConcatenation, isConditioned, is_constant, is_edge, is_node_lem, is_not, isOr, is_property, is_repetition, isUnion, item_at, lower, make, no_item, pattern_form, pattern_row_lem}
+use Rattle.meaning.specs.Table.{Form, Item, Row, condition_form, condition_row, fine, form_at, is_and, is_bad, is_concatenation, is_conditioned, is_constant, is_edge, is_node_lem, is_not, is_or, is_property, is_repetition, is_union, item_at, lower, make, no_item, pattern_form, pattern_row_lem}
 
 module _ (t : List Row) where
   length_lower : (i : ℕ) → length (lower t i) ≡ i
@@ -40,14 +40,14 @@ module _ (t : List Row) where
   unfolding opened
   make_same i g h s (is_node_lem x l) e = refl
   make_same i g h s (is_edge d x l) e = refl
-  make_same i g h s (isUnion p q) e = rw (s p (pattern_below i p (and_l (pattern_row_lem t i p) (pattern_row_lem t i q) e)), s q (pattern_below i q (and_r (pattern_row_lem t i p) (pattern_row_lem t i q) e)))
-  make_same i g h s (isConcatenation p q) e = rw (s p (pattern_below i p (and_l (pattern_row_lem t i p) (pattern_row_lem t i q) e)), s q (pattern_below i q (and_r (pattern_row_lem t i p) (pattern_row_lem t i q) e)))
-  make_same i g h s (isConditioned p q) e = rw (s p (pattern_below i p (and_l (pattern_row_lem t i p) (condition_row t i q) e)), s q (condition_below i q (and_r (pattern_row_lem t i p) (condition_row t i q) e)))
+  make_same i g h s (is_union p q) e = rw (s p (pattern_below i p (and_l (pattern_row_lem t i p) (pattern_row_lem t i q) e)), s q (pattern_below i q (and_r (pattern_row_lem t i p) (pattern_row_lem t i q) e)))
+  make_same i g h s (is_concatenation p q) e = rw (s p (pattern_below i p (and_l (pattern_row_lem t i p) (pattern_row_lem t i q) e)), s q (pattern_below i q (and_r (pattern_row_lem t i p) (pattern_row_lem t i q) e)))
+  make_same i g h s (is_conditioned p q) e = rw (s p (pattern_below i p (and_l (pattern_row_lem t i p) (condition_row t i q) e)), s q (condition_below i q (and_r (pattern_row_lem t i p) (condition_row t i q) e)))
   make_same i g h s (is_repetition p r n) e = rw (s p (pattern_below i p (and_l (pattern_row_lem t i p) (leb r 65534 && leb r n) e)))
   make_same i g h s (is_constant x k c) e = refl
   make_same i g h s (is_property x k y l) e = refl
-  make_same i g h s (isAnd p q) e = rw (s p (condition_below i p (and_l (condition_row t i p) (condition_row t i q) e)), s q (condition_below i q (and_r (condition_row t i p) (condition_row t i q) e)))
-  make_same i g h s (isOr p q) e = rw (s p (condition_below i p (and_l (condition_row t i p) (condition_row t i q) e)), s q (condition_below i q (and_r (condition_row t i p) (condition_row t i q) e)))
+  make_same i g h s (is_and p q) e = rw (s p (condition_below i p (and_l (condition_row t i p) (condition_row t i q) e)), s q (condition_below i q (and_r (condition_row t i p) (condition_row t i q) e)))
+  make_same i g h s (is_or p q) e = rw (s p (condition_below i p (and_l (condition_row t i p) (condition_row t i q) e)), s q (condition_below i q (and_r (condition_row t i p) (condition_row t i q) e)))
   make_same i g h s (is_not p) e = rw (s p (condition_below i p e))
   make_same i g h s is_bad e = refl
 

@@ -14,7 +14,7 @@ use Rattle.meaning.proofs.Logic.{all_map, either}
 use Rattle.meaning.proofs.Opened.{opened}
 use Rattle.meaning.specs.Assignment.{Assignment, Entries, Factor, Value, bind, entries, group, nothing, one, path_of_lem, value_of}
 use Rattle.meaning.specs.Basics.{All, eight, if◌then◌else◌, max, or_else}
-use Rattle.meaning.specs.Graph.{Graph, Walk, ◌·◌, len, step, stop, theEdge, theNode}
+use Rattle.meaning.specs.Graph.{Graph, Walk, ◌·◌, len, step, stop, the_edge, the_node}
 use Rattle.meaning.specs.Meaning.{Meaning, Product}
 use Rattle.meaning.specs.Pattern.{Pattern, Sound, concatenation, conditioned, edge, in_var, nesting, node, repetition, union}
 use Rattle.meaning.specs.Record.{entries_words, places, record_of_lem, slot_words_lem, value_words_lem, variable_words}
@@ -94,8 +94,8 @@ module _ (G : Graph) where
 
   pub size : (π : Pattern) → Sound π → (d : ℕ) → nesting π ≤ d → (p : Walk) (μ : Assignment) → Meaning G π p μ → Small d p μ
   unfolding opened Small
-  size (node y l) s d h p μ m x = let k = bind_size y (one (theNode m.n)) x refl in at_var x (1 + 5 * (d * len p)) m.assignment_is (omega arith)
-  size (edge e y l) s d h p μ m x = let k = bind_size y (one (theEdge m.e)) x refl in at_var x (1 + 5 * (d * len p)) m.assignment_is (omega arith)
+  size (node y l) s d h p μ m x = let k = bind_size y (one (the_node m.n)) x refl in at_var x (1 + 5 * (d * len p)) m.assignment_is (omega arith)
+  size (edge e y l) s d h p μ m x = let k = bind_size y (one (the_edge m.e)) x refl in at_var x (1 + 5 * (d * len p)) m.assignment_is (omega arith)
   size (union a b) s d h p μ m x =
       let n = max_le (nesting a) (nesting b) d h in
       let k = nothing_size (in_var (union a b) x) in

@@ -14,7 +14,7 @@ use Rattle.meaning.proofs.Opened.{opened}
 use Rattle.meaning.proofs.Rows.{condition_below, every_row, pattern_below}
 use Rattle.meaning.specs.Basics.{if◌then◌else◌}
 use Rattle.meaning.specs.Pattern.{in_condition, in_var, named}
-use Rattle.meaning.specs.Table.{Form, Item, Row, as_condition, as_pattern, condition_item_lem, condition_row, fine, form_at, isAnd, is_bad, isConcatenation, isConditioned, is_constant, is_edge, is_node_lem, is_not, isOr, is_property, is_repetition, isUnion, is_variable_lem, item_at, make, no_item, pattern_item, pattern_row_lem, unless}
+use Rattle.meaning.specs.Table.{Form, Item, Row, as_condition, as_pattern, condition_item_lem, condition_row, fine, form_at, is_and, is_bad, is_concatenation, is_conditioned, is_constant, is_edge, is_node_lem, is_not, is_or, is_property, is_repetition, is_union, is_variable_lem, item_at, make, no_item, pattern_item, pattern_row_lem, unless}
 
 abbrev VariablesItem : Item → Type 0
 VariablesItem (pattern_item π) = (x : ℕ) → in_var π x ≡ true → is_variable_lem x ≡ true
@@ -62,16 +62,16 @@ module _ (t : List Row) (ok : (i : ℕ) → i < length t → fine t i (form_at t
   unfolding opened
   var_row i h ih (is_node_lem y l) e q = λ x u. named_var y x e u
   var_row i h ih (is_edge d y l) e q = λ x u. named_var y x e u
-  var_row i h ih (isUnion p r) e q = two_patterns i p r ih e
-  var_row i h ih (isConcatenation p r) e q = two_patterns i p r ih e
-  var_row i h ih (isConditioned p r) e q = λ x u. either (or_cases (in_var (as_pattern (item_at t p)) x) (in_condition (as_condition (item_at t r)) x) u)
+  var_row i h ih (is_union p r) e q = two_patterns i p r ih e
+  var_row i h ih (is_concatenation p r) e q = two_patterns i p r ih e
+  var_row i h ih (is_conditioned p r) e q = λ x u. either (or_cases (in_var (as_pattern (item_at t p)) x) (in_condition (as_condition (item_at t r)) x) u)
       (var_pattern (item_at t p) (ih p (pattern_below t i p (and_l (pattern_row_lem t i p) (condition_row t i r) e))) x)
       (var_condition (item_at t r) (ih r (condition_below t i r (and_r (pattern_row_lem t i p) (condition_row t i r) e))) x)
   var_row i h ih (is_repetition p r s) e q = var_pattern (item_at t p) (ih p (pattern_below t i p (and_l (pattern_row_lem t i p) (leb r 65534 && leb r s) e)))
   var_row i h ih (is_constant y k c) e q = λ x u. moved y x e u
   var_row i h ih (is_property y k z l) e q = λ x u. either (or_cases (eqb y x) (eqb z x) u) (moved y x (and_l (is_variable_lem y) (is_variable_lem z) e)) (moved z x (and_r (is_variable_lem y) (is_variable_lem z) e))
-  var_row i h ih (isAnd p r) e q = two_conditions i p r ih e
-  var_row i h ih (isOr p r) e q = two_conditions i p r ih e
+  var_row i h ih (is_and p r) e q = two_conditions i p r ih e
+  var_row i h ih (is_or p r) e q = two_conditions i p r ih e
   var_row i h ih (is_not p) e q = var_condition (item_at t p) (ih p (condition_below t i p e))
   var_row i h ih is_bad e q = tt
 

@@ -21,7 +21,7 @@ use Rattle.meaning.proofs.Types.{well_typed_iff}
 use Rattle.meaning.proofs.Untyped.{RowTyped, formed_fault, lowest_clear, refused_16, row_typed←}
 use Rattle.meaning.specs.Basics.{◌∈◌, at_row, first_of, lowest, rowless}
 use Rattle.meaning.specs.Pattern.{Condition, Pattern, concatenation, conditioned, repetition, union}
-use Rattle.meaning.specs.Table.{Form, Item, Row, as_condition, as_pattern, bad_length, condition_form, condition_item_lem, condition_row, fault16, fine, form_at, isAnd, is_bad, isConcatenation, isConditioned, is_constant, is_edge, is_node_lem, is_not, isOr, is_property, is_repetition, isUnion, item_at, lower, make, names_of, no_item, pattern_fault, pattern_item, pattern_of, pattern_row_lem, rows_of, table_fault, table_pattern, unless}
+use Rattle.meaning.specs.Table.{Form, Item, Row, as_condition, as_pattern, bad_length, condition_form, condition_item_lem, condition_row, fault16, fine, form_at, is_and, is_bad, is_concatenation, is_conditioned, is_constant, is_edge, is_node_lem, is_not, is_or, is_property, is_repetition, is_union, item_at, lower, make, names_of, no_item, pattern_fault, pattern_item, pattern_of, pattern_row_lem, rows_of, table_fault, table_pattern, unless}
 use Rattle.meaning.specs.Typing.{WellTyped}
 
 no_condition : {A : Type 0} {θ : Condition} {π : Pattern} → condition_item_lem θ ≡ pattern_item π → A
@@ -33,14 +33,14 @@ condition_item : (g : ℕ → Item) (f : Form) → condition_form f ≡ true →
 unfolding opened
 condition_item g (is_node_lem x l) e π q = no_false e
 condition_item g (is_edge d x l) e π q = no_false e
-condition_item g (isUnion a b) e π q = no_false e
-condition_item g (isConcatenation a b) e π q = no_false e
-condition_item g (isConditioned a b) e π q = no_false e
+condition_item g (is_union a b) e π q = no_false e
+condition_item g (is_concatenation a b) e π q = no_false e
+condition_item g (is_conditioned a b) e π q = no_false e
 condition_item g (is_repetition a r s) e π q = no_false e
 condition_item g (is_constant x k c) e π q = no_condition q
 condition_item g (is_property x k y l) e π q = no_condition q
-condition_item g (isAnd a b) e π q = no_condition q
-condition_item g (isOr a b) e π q = no_condition q
+condition_item g (is_and a b) e π q = no_condition q
+condition_item g (is_or a b) e π q = no_condition q
 condition_item g (is_not a) e π q = no_condition q
 condition_item g is_bad e π q = no_false e
 
@@ -62,20 +62,20 @@ module _ (t : List Row) where
   unfolding opened
   named_typed j i (is_node_lem x l) e m w = absurd (Memᴰ.not-nil m)
   named_typed j i (is_edge d x l) e m w = absurd (Memᴰ.not-nil m)
-  named_typed j i (isUnion p q) e m w =
+  named_typed j i (is_union p q) e m w =
       let s = parts_typed (union (as_pattern (item_at t p)) (as_pattern (item_at t q))) (w _ refl) in
       either (pair_cases m) (pattern_typed p i s.0) (pattern_typed q i s.1)
-  named_typed j i (isConcatenation p q) e m w =
+  named_typed j i (is_concatenation p q) e m w =
       let s = parts_typed (concatenation (as_pattern (item_at t p)) (as_pattern (item_at t q))) (w _ refl) in
       either (pair_cases m) (pattern_typed p i s.0) (pattern_typed q i s.1)
-  named_typed j i (isConditioned p q) e m w =
+  named_typed j i (is_conditioned p q) e m w =
       let s = parts_typed (conditioned (as_pattern (item_at t p)) (as_condition (item_at t q))) (w _ refl) in
       either (pair_cases m) (pattern_typed p i s) (condition_typed j q i (and_r (pattern_row_lem t j p) (condition_row t j q) e))
   named_typed j i (is_repetition p r s) e m w = pattern_typed p i (parts_typed (repetition (as_pattern (item_at t p)) r (unless 65535 s)) (w _ refl)) (one_case m)
   named_typed j i (is_constant x k c) e m w = absurd (Memᴰ.not-nil m)
   named_typed j i (is_property x k y l) e m w = absurd (Memᴰ.not-nil m)
-  named_typed j i (isAnd p q) e m w = either (pair_cases m) (condition_typed j p i (and_l (condition_row t j p) (condition_row t j q) e)) (condition_typed j q i (and_r (condition_row t j p) (condition_row t j q) e))
-  named_typed j i (isOr p q) e m w = either (pair_cases m) (condition_typed j p i (and_l (condition_row t j p) (condition_row t j q) e)) (condition_typed j q i (and_r (condition_row t j p) (condition_row t j q) e))
+  named_typed j i (is_and p q) e m w = either (pair_cases m) (condition_typed j p i (and_l (condition_row t j p) (condition_row t j q) e)) (condition_typed j q i (and_r (condition_row t j p) (condition_row t j q) e))
+  named_typed j i (is_or p q) e m w = either (pair_cases m) (condition_typed j p i (and_l (condition_row t j p) (condition_row t j q) e)) (condition_typed j q i (and_r (condition_row t j p) (condition_row t j q) e))
   named_typed j i (is_not p) e m w = condition_typed j p i e (one_case m)
   named_typed j i is_bad e m w = absurd (Memᴰ.not-nil m)
 

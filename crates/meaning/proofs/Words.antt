@@ -9,7 +9,7 @@ use native.Mathlib.Nat.{suc_inj}
 use Rattle.meaning.proofs.Opened.{opened}
 use Rattle.meaning.specs.Assignment.{AllOf, Assignment, Conforms, Entries, Of, Value, count, entry, group, no_entry, nothing, one}
 use Rattle.meaning.specs.Basics.{All, eight}
-use Rattle.meaning.specs.Graph.{Walk, len, step, stop, theEdge, theNode}
+use Rattle.meaning.specs.Graph.{Walk, len, step, stop, the_edge, the_node}
 use Rattle.meaning.specs.Record.{entries_words, path_words_lem, places, record_of_lem, slot_words_lem, value_words_lem, variable_words}
 use Rattle.meaning.specs.Typing.{Edge, Found, Group, Maybe, Node, Ty, absent, clash, typed}
 
@@ -45,8 +45,8 @@ module _ (n m k : ℕ) (hn : n < 65535) (hm : m < 65535) (hk : k < 65535) where
 
   pub only_nothing : (τ : Ty) (w : Value) (s t : List ℕ) → Of n m k τ w → 65535 ∷ s ≡ value_words_lem w ++ t → (w ≡ nothing) × (s ≡ t)
   unfolding opened
-  only_nothing Node w s t (u, h, q) e = let z : 65535 ≡ u = cons_head (starts w (one (theNode u)) t q e) in absurd (omega arith)
-  only_nothing Edge w s t (u, h, q) e = let z : 65535 ≡ u = cons_head (starts w (one (theEdge u)) t q e) in absurd (omega arith)
+  only_nothing Node w s t (u, h, q) e = let z : 65535 ≡ u = cons_head (starts w (one (the_node u)) t q e) in absurd (omega arith)
+  only_nothing Edge w s t (u, h, q) e = let z : 65535 ≡ u = cons_head (starts w (one (the_edge u)) t q e) in absurd (omega arith)
   only_nothing (Maybe τ) w s t (inl q) e = (q, cons_tail (starts w nothing t q e))
   only_nothing (Maybe τ) w s t (inr o) e = only_nothing τ w s t o e
   only_nothing (Group τ) w s t (g, h, a, q) e = let z : 65535 ≡ count g = cons_head (starts w (group g) t q e) in absurd (omega arith)
@@ -72,11 +72,11 @@ module _ (n m k : ℕ) (hn : n < 65535) (hm : m < 65535) (hk : k < 65535) where
   pub parts : (τ : Ty) → Parts τ
   unfolding opened
   parts Node v w s t (u, h, q) (u', h', q') e =
-      let z = starts w (one (theNode u')) t q' (sym (ap (λ (x : Value). value_words_lem x ++ s) q) ∙ e) in
-      (q ∙ (ap (λ (x : ℕ). one (theNode x)) (cons_head z) ∙ sym q'), cons_tail z)
+      let z = starts w (one (the_node u')) t q' (sym (ap (λ (x : Value). value_words_lem x ++ s) q) ∙ e) in
+      (q ∙ (ap (λ (x : ℕ). one (the_node x)) (cons_head z) ∙ sym q'), cons_tail z)
   parts Edge v w s t (u, h, q) (u', h', q') e =
-      let z = starts w (one (theEdge u')) t q' (sym (ap (λ (x : Value). value_words_lem x ++ s) q) ∙ e) in
-      (q ∙ (ap (λ (x : ℕ). one (theEdge x)) (cons_head z) ∙ sym q'), cons_tail z)
+      let z = starts w (one (the_edge u')) t q' (sym (ap (λ (x : Value). value_words_lem x ++ s) q) ∙ e) in
+      (q ∙ (ap (λ (x : ℕ). one (the_edge x)) (cons_head z) ∙ sym q'), cons_tail z)
   parts (Maybe τ) v w s t (inl q) (inl q') e =
       let z = starts w nothing t q' (sym (ap (λ (x : Value). value_words_lem x ++ s) q) ∙ e) in (q ∙ sym q', cons_tail z)
   parts (Maybe τ) v w s t (inl q) (inr o) e =

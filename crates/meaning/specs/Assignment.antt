@@ -3,7 +3,7 @@ use Rattle.std.specs.Prelude.{◌≡◌, List, [], ◌∷◌, ◌⊎◌, ℕ, su
 use Rattle.std.proofs.Math.Option.{Option, none, some}
 use Rattle.std.proofs.Math.Decide.{ℕ_discrete}
 use Rattle.meaning.specs.Basics.{if◌then◌else◌, or_else}
-use Rattle.meaning.specs.Graph.{Element, theNode, theEdge, Element-discrete, Graph, Walk, Walk-discrete}
+use Rattle.meaning.specs.Graph.{Element, the_node, the_edge, Element-discrete, Graph, Walk, Walk-discrete}
 use Rattle.meaning.specs.Pattern.{Condition, equals_constant, equals_property, and, or, neg, Pattern, in_var}
 use Rattle.meaning.specs.Typing.{Ty, Node, Edge, Maybe, Group, Found, absent, clash, typed}
 use Rattle.meaning.specs.Truth.{Truth, Unknown, decided, negation, conjunction, disjunction}
@@ -76,8 +76,8 @@ AllOf P (entry p v g) = P v × AllOf P g
 
 module _ (n m k : ℕ) where
   abbrev pub Of : Ty → Value → Type 0
-  Of Node v = (u : ℕ) × (u < n) × (v ≡ one (theNode u))
-  Of Edge v = (e : ℕ) × (e < m) × (v ≡ one (theEdge e))
+  Of Node v = (u : ℕ) × (u < n) × (v ≡ one (the_node u))
+  Of Edge v = (e : ℕ) × (e < m) × (v ≡ one (the_edge e))
   Of (Maybe τ) v = (v ≡ nothing) ⊎ Of τ v
   Of (Group τ) v = (g : Entries) × (count g ≤ k) × AllOf (Of τ) g × (v ≡ group g)
 

@@ -6,7 +6,7 @@ use Rattle.std.proofs.Math.ListN.{get_elem?}
 infixl 70 ◌·◌
 -- nodes and edges are drawn from disjoint sets: node 5 and edge 5 are different things
 pub data Element : Type 0 where
-  theNode theEdge : ℕ → Element
+  the_node the_edge : ℕ → Element
   deriving Discrete as Element-discrete
 
 -- an edge: directed from first to second, or undirected between the two

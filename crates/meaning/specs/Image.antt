@@ -2,7 +2,7 @@
 use Rattle.std.specs.Prelude.{List, map, Bool, true, false, not, ◌&&◌, ◌||◌, ℕ, zero, suc, ◌+◌, ◌*◌, ◌/◌, ◌%◌, eqb, ltb, leb, length, get_or}
 use Rattle.std.proofs.Math.Option.{Option, none, some}
 use Rattle.meaning.specs.Basics.{lowest, up_from, Cause, first_of, rowless, at_row}
-use Rattle.meaning.specs.Graph.{Element, theNode, theEdge, EdgeRow, Graph}
+use Rattle.meaning.specs.Graph.{Element, the_node, the_edge, EdgeRow, Graph}
 
 -- 16 bits, low byte first
 unfoldable pub number : List ℕ → ℕ → ℕ
@@ -86,8 +86,8 @@ module _ (image : List ℕ) where
   -- ------------------------------------------------------------------ the graph
   -- element n below N is node n, element N + e is edge e
   unfoldable pub element_number : Element → ℕ
-  element_number (theNode n) = n
-  element_number (theEdge e) = node_count + e
+  element_number (the_node n) = n
+  element_number (the_edge e) = node_count + e
 
   unfoldable pub value_in : ℕ → Element → ℕ → Option ℕ
   value_in zero x k = none

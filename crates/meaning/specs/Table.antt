@@ -29,11 +29,11 @@ no_row = record { kind = 0; p = 0; q = 0; r = 0; s = 0 }
 pub data Form : Type 0 where
   is_node_lem : ℕ → ℕ → Form
   is_edge : Direction → ℕ → ℕ → Form
-  isUnion isConcatenation isConditioned : ℕ → ℕ → Form
+  is_union is_concatenation is_conditioned : ℕ → ℕ → Form
   is_repetition : ℕ → ℕ → ℕ → Form
   is_constant : ℕ → ℕ → ℕ → Form
   is_property : ℕ → ℕ → ℕ → ℕ → Form
-  isAnd isOr : ℕ → ℕ → Form
+  is_and is_or : ℕ → ℕ → Form
   is_not : ℕ → Form
   is_bad : Form
 
@@ -49,41 +49,41 @@ form l =
     if eqb l.kind 2 then if_zero rs (is_edge forward l.p l.q) else
     if eqb l.kind 3 then if_zero rs (is_edge backward l.p l.q) else
     if eqb l.kind 4 then if_zero rs (is_edge undirected l.p l.q) else
-    if eqb l.kind 5 then if_zero rs (isUnion l.p l.q) else
-    if eqb l.kind 6 then if_zero rs (isConcatenation l.p l.q) else
-    if eqb l.kind 7 then if_zero rs (isConditioned l.p l.q) else
+    if eqb l.kind 5 then if_zero rs (is_union l.p l.q) else
+    if eqb l.kind 6 then if_zero rs (is_concatenation l.p l.q) else
+    if eqb l.kind 7 then if_zero rs (is_conditioned l.p l.q) else
     if eqb l.kind 8 then if_zero (eqb l.q 0) (is_repetition l.p l.r l.s) else
     if eqb l.kind 16 then if_zero (eqb l.s 0) (is_constant l.p l.q l.r) else
     if eqb l.kind 17 then is_property l.p l.q l.r l.s else
-    if eqb l.kind 18 then if_zero rs (isAnd l.p l.q) else
-    if eqb l.kind 19 then if_zero rs (isOr l.p l.q) else
+    if eqb l.kind 18 then if_zero rs (is_and l.p l.q) else
+    if eqb l.kind 19 then if_zero rs (is_or l.p l.q) else
     if eqb l.kind 20 then if_zero (eqb l.q 0 && rs) (is_not l.p) else is_bad
 
 unfoldable pub pattern_form : Form → Bool
 pattern_form (is_node_lem x l) = true
 pattern_form (is_edge d x l) = true
-pattern_form (isUnion p q) = true
-pattern_form (isConcatenation p q) = true
-pattern_form (isConditioned p q) = true
+pattern_form (is_union p q) = true
+pattern_form (is_concatenation p q) = true
+pattern_form (is_conditioned p q) = true
 pattern_form (is_repetition p r s) = true
 pattern_form (is_constant x k c) = false
 pattern_form (is_property x k y l) = false
-pattern_form (isAnd p q) = false
-pattern_form (isOr p q) = false
+pattern_form (is_and p q) = false
+pattern_form (is_or p q) = false
 pattern_form (is_not p) = false
 pattern_form is_bad = false
 
 unfoldable pub condition_form : Form → Bool
 condition_form (is_node_lem x l) = false
 condition_form (is_edge d x l) = false
-condition_form (isUnion p q) = false
-condition_form (isConcatenation p q) = false
-condition_form (isConditioned p q) = false
+condition_form (is_union p q) = false
+condition_form (is_concatenation p q) = false
+condition_form (is_conditioned p q) = false
 condition_form (is_repetition p r s) = false
 condition_form (is_constant x k c) = true
 condition_form (is_property x k y l) = true
-condition_form (isAnd p q) = true
-condition_form (isOr p q) = true
+condition_form (is_and p q) = true
+condition_form (is_or p q) = true
 condition_form (is_not p) = true
 condition_form is_bad = false
 
@@ -91,14 +91,14 @@ condition_form is_bad = false
 unfoldable pub names_of : Form → List ℕ
 names_of (is_node_lem x l) = []
 names_of (is_edge d x l) = []
-names_of (isUnion p q) = p ∷ q ∷ []
-names_of (isConcatenation p q) = p ∷ q ∷ []
-names_of (isConditioned p q) = p ∷ q ∷ []
+names_of (is_union p q) = p ∷ q ∷ []
+names_of (is_concatenation p q) = p ∷ q ∷ []
+names_of (is_conditioned p q) = p ∷ q ∷ []
 names_of (is_repetition p r s) = p ∷ []
 names_of (is_constant x k c) = []
 names_of (is_property x k y l) = []
-names_of (isAnd p q) = p ∷ q ∷ []
-names_of (isOr p q) = p ∷ q ∷ []
+names_of (is_and p q) = p ∷ q ∷ []
+names_of (is_or p q) = p ∷ q ∷ []
 names_of (is_not p) = p ∷ []
 names_of is_bad = []
 
@@ -130,14 +130,14 @@ unless absence x = if eqb x absence then none else some x
 unfoldable pub make : (ℕ → Item) → Form → Item
 make f (is_node_lem x l) = pattern_item (node (unless 0 x) (unless 0 l))
 make f (is_edge d x l) = pattern_item (edge d (unless 0 x) (unless 0 l))
-make f (isUnion p q) = pattern_item (union (as_pattern (f p)) (as_pattern (f q)))
-make f (isConcatenation p q) = pattern_item (concatenation (as_pattern (f p)) (as_pattern (f q)))
-make f (isConditioned p q) = pattern_item (conditioned (as_pattern (f p)) (as_condition (f q)))
+make f (is_union p q) = pattern_item (union (as_pattern (f p)) (as_pattern (f q)))
+make f (is_concatenation p q) = pattern_item (concatenation (as_pattern (f p)) (as_pattern (f q)))
+make f (is_conditioned p q) = pattern_item (conditioned (as_pattern (f p)) (as_condition (f q)))
 make f (is_repetition p r s) = pattern_item (repetition (as_pattern (f p)) r (unless 65535 s))
 make f (is_constant x k c) = condition_item_lem (equals_constant x k c)
 make f (is_property x k y l) = condition_item_lem (equals_property x k y l)
-make f (isAnd p q) = condition_item_lem (and (as_condition (f p)) (as_condition (f q)))
-make f (isOr p q) = condition_item_lem (or (as_condition (f p)) (as_condition (f q)))
+make f (is_and p q) = condition_item_lem (and (as_condition (f p)) (as_condition (f q)))
+make f (is_or p q) = condition_item_lem (or (as_condition (f p)) (as_condition (f q)))
 make f (is_not p) = condition_item_lem (neg (as_condition (f p)))
 make f is_bad = no_item
 
@@ -197,14 +197,14 @@ module _ (t : List Row) where
   unfoldable pub fine : ℕ → Form → Bool
   fine i (is_node_lem x l) = leb x 8
   fine i (is_edge d x l) = leb x 8
-  fine i (isUnion p q) = pattern_row_lem i p && pattern_row_lem i q
-  fine i (isConcatenation p q) = pattern_row_lem i p && pattern_row_lem i q
-  fine i (isConditioned p q) = pattern_row_lem i p && condition_row i q
+  fine i (is_union p q) = pattern_row_lem i p && pattern_row_lem i q
+  fine i (is_concatenation p q) = pattern_row_lem i p && pattern_row_lem i q
+  fine i (is_conditioned p q) = pattern_row_lem i p && condition_row i q
   fine i (is_repetition p r s) = pattern_row_lem i p && (leb r 65534 && leb r s)
   fine i (is_constant x k c) = is_variable_lem x
   fine i (is_property x k y l) = is_variable_lem x && is_variable_lem y
-  fine i (isAnd p q) = condition_row i p && condition_row i q
-  fine i (isOr p q) = condition_row i p && condition_row i q
+  fine i (is_and p q) = condition_row i p && condition_row i q
+  fine i (is_or p q) = condition_row i p && condition_row i q
   fine i (is_not p) = condition_row i p
   fine i is_bad = false
 

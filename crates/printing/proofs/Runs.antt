@@ -198,7 +198,7 @@ module _ (image query : List ℕ) where
       let q : report ≡ bytes ++ drop (length bytes) report₀ = h.report_is ∙ (ap (λ (x : Left). x.report) l_is ∙ report_left c here (is_empty rest')) in
       let count_here : reported 2 report ≡ length here = ap (reported 2) q ∙ count_read 0 0 (length here) (length (join here)) (bit (is_empty rest')) 0 (drop (length bytes) report₀) (omega (arith, few₂)) in
       let run : host_calls_of F [] (calls ++ (c ∷ [])) ≡ host_calls_of F [] calls ++ (l ∷ []) = run_snoc calls c [] ∙ ap (λ (x : Record). host_calls_of F [] calls ++ ((page_of F x c).left ∷ [])) (ap (last_or []) shown) in
-      let on-page : records_shown F l ≡ here = ap (records_shown F) l_is ∙ shown_left c here (is_empty rest') reads few₂ in (
+      let on_page : records_shown F l ≡ here = ap (records_shown F) l_is ∙ shown_left c here (is_empty rest') reads few₂ in (
         record {
           granted = ok;
           calls = calls ++ (c ∷ []);
@@ -206,7 +206,7 @@ module _ (image query : List ℕ) where
           before = before;
           here = here;
           rest = rest';
-          shown = ap (λ (x : List Left). each x (records_shown F)) run ∙ (each_snoc (host_calls_of F [] calls) l (records_shown F) ∙ ap₂ (λ (x y : List Record). x ++ y) shown on-page);
+          shown = ap (λ (x : List Left). each x (records_shown F)) run ∙ (each_snoc (host_calls_of F [] calls) l (records_shown F) ∙ ap₂ (λ (x y : List Record). x ++ y) shown on_page);
           listing = listing;
           some_here = λ z. ap (drop (length here)) (fit_some 20000 rest (short ok before rest e) z) ∙ drop-nil (length here);
           fits = few;

@@ -42,9 +42,9 @@ module _ (query : List ℕ) (i : ℕ) (part : PartRead) (p : PartIs query i part
   pub name_none : part.name ≡ 0 → false ≡ bad_first_name (drop i (parts_of query))
   name_none e = sym (first true (eq-eqb part.name 0 e))
 
-  module _ (some-name : part.name ≡ 0 → ⊥) (b : Bool) (told : b ≡ is_name_lem part.name) where
+  module _ (some_name : part.name ≡ 0 → ⊥) (b : Bool) (told : b ≡ is_name_lem part.name) where
     other : bad_first_name (drop i (parts_of query)) ≡ (not b || name_used_lem part.name (drop (suc i) (parts_of query)))
-    other = first false (ne_eqb part.name 0 some-name) ∙ ap (λ (t : Bool). not t || name_used_lem part.name (drop (suc i) (parts_of query))) (sym told)
+    other = first false (ne_eqb part.name 0 some_name) ∙ ap (λ (t : Bool). not t || name_used_lem part.name (drop (suc i) (parts_of query))) (sym told)
 
     pub name_once : b ≡ true → (r : Bool) → r ≡ name_used_lem part.name (drop (i + 1) (parts_of query)) → r ≡ bad_first_name (drop i (parts_of query))
     name_once e r q = q ∙ ap (λ (k : ℕ). name_used_lem part.name (drop k (parts_of query))) (add-one i) ∙ sym (other ∙ ap (λ (t : Bool). not t || name_used_lem part.name (drop (suc i) (parts_of query))) e)

@@ -76,15 +76,15 @@ no_digit t Edge e h = omega arith
 no_digit t (Maybe τ) e h = omega arith
 no_digit t (Group τ) e h = omega arith
 
-module _ (rec : List ℕ) (known t place : ℕ) (in-rec : known ≤ length rec) (bound : known ≤ 20000) where
+module _ (rec : List ℕ) (known t place : ℕ) (in_rec : known ≤ length rec) (bound : known ≤ 20000) where
   pub at : place < known → (us : List ℕ) × (view_at (take known rec) place ≡ some (get_or rec place 0 ∷ us)) × (view_at (take known rec) (place + 1) ≡ some us)
-  at h = let (us, a, b) = view_cons (take known rec) place (omega (arith, length-take-le known rec in-rec)) in (us, a ∙ ap (λ (w : ℕ). some (w ∷ us)) (get_or-take known rec place 0 h), b)
+  at h = let (us, a, b) = view_cons (take known rec) place (omega (arith, length-take-le known rec in_rec)) in (us, a ∙ ap (λ (w : ℕ). some (w ∷ us)) (get_or-take known rec place 0 h), b)
 
   pub nowhere : view_at (take known rec) 65535 ≡ none
-  nowhere = view_far (take known rec) 65535 (omega (arith, length-take-le known rec in-rec))
+  nowhere = view_far (take known rec) 65535 (omega (arith, length-take-le known rec in_rec))
 
   pub end_unknown : known ≤ place → EndsAt (take known rec) t place 65535
-  end_unknown h = record { is = λ f e. nowhere ∙ sym (after_unknown (take known rec) place f (omega (arith, length-take-le known rec in-rec))); small = omega arith }
+  end_unknown h = record { is = λ f e. nowhere ∙ sym (after_unknown (take known rec) place f (omega (arith, length-take-le known rec in_rec))); small = omega arith }
 
   pub end_one : place < known → 1 ≤ t % 8 → t % 8 < 3 → EndsAt (take known rec) t place (place + 1)
   unfolding matcher_opened

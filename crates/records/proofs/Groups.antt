@@ -30,10 +30,10 @@ group_done ks t from count place left g l = record { is = λ τ e. sym (g.is τ 
     ends τ n none e = refl
     ends τ n (some us) e = ap (λ (i : ℕ). iterate i (after_entry (after_value τ)) us) e
 
-module _ (rec : List ℕ) (known t from count place left : ℕ) (in-rec : known ≤ length rec) (bound : known ≤ 20000) where
+module _ (rec : List ℕ) (known t from count place left : ℕ) (in_rec : known ≤ length rec) (bound : known ≤ 20000) where
   pub group_unknown : Grouping (take known rec) t from count place left → 0 < left → known ≤ place → EndsGroup (take known rec) t from count 65535
   unfolding matcher_opened
-  group_unknown g n l = record { is = λ τ e. nowhere rec known t place in-rec bound ∙ sym (g.is τ e ∙ view_past (take known rec) place (omega (arith, length-take-le known rec in-rec)) (iterate left (after_entry (after_value τ))) (nothing τ left n)); small = omega arith }
+  group_unknown g n l = record { is = λ τ e. nowhere rec known t place in_rec bound ∙ sym (g.is τ e ∙ view_past (take known rec) place (omega (arith, length-take-le known rec in_rec)) (iterate left (after_entry (after_value τ))) (nothing τ left n)); small = omega arith }
     where
       nothing : (τ : Ty) (c : ℕ) → 0 < c → iterate c (after_entry (after_value τ)) [] ≡ none
       nothing τ zero n = absurd (omega arith)
@@ -51,7 +51,7 @@ module _ (rec : List ℕ) (known t from count place left : ℕ) (in-rec : known 
     where
       go : (τ : Ty) → t ≡ ty_code τ → option_bind (view_at (take known rec) from) (iterate count (after_entry (after_value τ))) ≡ option_bind (view_at (take known rec) next) (iterate (left - 1) (after_entry (after_value τ)))
       go τ e =
-          let (us, a, b) = at rec known t place in-rec bound l in
+          let (us, a, b) = at rec known t place in_rec bound l in
           let z : place + size ≡ (place + 1) + (2 * edges + 1) = omega arith in
           let v : view_at (take known rec) (place + size) ≡ skip (2 * edges + 1) us = ap (view_at (take known rec)) z ∙ (sym (view_skip (take known rec) (place + 1) (2 * edges + 1)) ∙ ap (λ (o : Option (List ℕ)). option_bind o (skip (2 * edges + 1))) b) in
           g.is τ e ∙ (ap (λ (o : Option (List ℕ)). option_bind o (iterate left (after_entry (after_value τ)))) a ∙ (one_more left (after_entry (after_value τ)) (get_or rec place 0 ∷ us) n

@@ -94,7 +94,7 @@ views_first : (x : ℕ) → 1 ≤ x → x < 9 → (f : ℕ → Found) (o : Optio
 unfolding views
 views_first x a l f o y b e = ap (λ (xs : List ℕ). views xs f o y) (from_next x a l) ∙ ap (λ (c : Bool). if c then slot_view (f x) o else views (from (x + 1)) f (after_slot (f x) o) y) e
 
-module _ (rec : List ℕ) (known : ℕ) (types : List ℕ) (start : ℕ) (in-rec : known ≤ length rec) (bound : known ≤ 20000) where
+module _ (rec : List ℕ) (known : ℕ) (types : List ℕ) (start : ℕ) (in_rec : known ≤ length rec) (bound : known ≤ 20000) where
   pub slotting_more : (at to : List ℕ) (place next x t w : ℕ) → Slotting (take known rec) types start at place x → x < 9 → t ≡ get_or types x 0 → Slot t place w → to ≡ set at x w → SlotEnd (take known rec) t place next →
       Slotting (take known rec) types start to next (x + 1)
   unfolding after_slots
@@ -118,7 +118,7 @@ module _ (rec : List ℕ) (known : ℕ) (types : List ℕ) (start : ℕ) (in-rec
           let z : y ≡ x = eqb-true y x p in
           let m : length at ≡ 9 = h.size in
           ap (λ (i : ℕ). view_at (take known rec) (get_or (set at x w) i 0)) z ∙ (ap (view_at (take known rec)) (get_or-set_same at x w 0 (omega arith)) ∙
-          (s.is (take known rec) (omega (arith, length-take-le known rec in-rec)) (f x) (q ∙ ty x h.low l) ∙
+          (s.is (take known rec) (omega (arith, length-take-le known rec in_rec)) (f x) (q ∙ ty x h.low l) ∙
           (sym (views_first x h.low l f (view_at (take known rec) place) x true (eq-eqb x x refl)) ∙
           (h.rest f ty x (omega arith) ∙ ap (views eight f (view_at (take known rec) start)) (sym z)))))
       here f ty y b c false p =

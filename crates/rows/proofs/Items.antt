@@ -10,7 +10,7 @@ use lib.ListN.{length}
 use borrow.Author.Tests.{eqb-true, eqb-false}
 use Rattle.meaning.specs.Graph.{Direction, forward, backward, undirected}
 use Rattle.meaning.specs.Pattern.{Pattern, node, edge, union, concatenation, conditioned, repetition, equals_constant, equals_property, and, or, neg}
-use Rattle.meaning.specs.Table.{Form, pattern_item, condition_item_lem, rows_of, form, form_at, fine, make, item_at, if_zero, unless, as_pattern, as_condition, on_pattern, repeats, is_node_lem, is_edge, isUnion, isConcatenation, isConditioned, is_repetition, is_constant, is_property, isAnd, isOr, is_not, is_bad}
+use Rattle.meaning.specs.Table.{Form, pattern_item, condition_item_lem, rows_of, form, form_at, fine, make, item_at, if_zero, unless, as_pattern, as_condition, on_pattern, repeats, is_node_lem, is_edge, is_union, is_concatenation, is_conditioned, is_repetition, is_constant, is_property, is_and, is_or, is_not, is_bad}
 use Rattle.meaning.proofs.Rows.{item_is}
 use Rattle.rows.specs.Rows.{Reads, row_of}
 use Rattle.rows.specs.Faults.{Formed}
@@ -23,14 +23,14 @@ use Rattle.rows.proofs.Misuse.{form_read}
 unfoldable pub is_conditioned_form : Form → Bool
 is_conditioned_form (is_node_lem x k) = false
 is_conditioned_form (is_edge δ x k) = false
-is_conditioned_form (isUnion p q) = false
-is_conditioned_form (isConcatenation p q) = false
-is_conditioned_form (isConditioned p q) = true
+is_conditioned_form (is_union p q) = false
+is_conditioned_form (is_concatenation p q) = false
+is_conditioned_form (is_conditioned p q) = true
 is_conditioned_form (is_repetition p n m) = false
 is_conditioned_form (is_constant x k c) = false
 is_conditioned_form (is_property x k y j) = false
-is_conditioned_form (isAnd p q) = false
-is_conditioned_form (isOr p q) = false
+is_conditioned_form (is_and p q) = false
+is_conditioned_form (is_or p q) = false
 is_conditioned_form (is_not p) = false
 is_conditioned_form is_bad = false
 
@@ -65,15 +65,15 @@ module _ (pattern : List ℕ) (row : ℕ) (r : Row) (d : Reads pattern row r) (f
 
   pub item_union : r.kind ≡ 5 → item_at (rows_of pattern) row ≡ pattern_item (union (as_pattern (item_at (rows_of pattern) r.p)) (as_pattern (item_at (rows_of pattern) r.q)))
   unfolding form make
-  item_union e = by_kind 5 e (eqb r.r 0 && eqb r.s 0) (isUnion r.p r.q) refl
+  item_union e = by_kind 5 e (eqb r.r 0 && eqb r.s 0) (is_union r.p r.q) refl
 
   pub item_concatenation : r.kind ≡ 6 → item_at (rows_of pattern) row ≡ pattern_item (concatenation (as_pattern (item_at (rows_of pattern) r.p)) (as_pattern (item_at (rows_of pattern) r.q)))
   unfolding form make
-  item_concatenation e = by_kind 6 e (eqb r.r 0 && eqb r.s 0) (isConcatenation r.p r.q) refl
+  item_concatenation e = by_kind 6 e (eqb r.r 0 && eqb r.s 0) (is_concatenation r.p r.q) refl
 
   pub item_conditioned : r.kind ≡ 7 → item_at (rows_of pattern) row ≡ pattern_item (conditioned (as_pattern (item_at (rows_of pattern) r.p)) (as_condition (item_at (rows_of pattern) r.q)))
   unfolding form make
-  item_conditioned e = by_kind 7 e (eqb r.r 0 && eqb r.s 0) (isConditioned r.p r.q) refl
+  item_conditioned e = by_kind 7 e (eqb r.r 0 && eqb r.s 0) (is_conditioned r.p r.q) refl
 
   pub item_repetition : r.kind ≡ 8 → item_at (rows_of pattern) row ≡ pattern_item (repetition (as_pattern (item_at (rows_of pattern) r.p)) r.r (unless 65535 r.s))
   unfolding form make
@@ -89,11 +89,11 @@ module _ (pattern : List ℕ) (row : ℕ) (r : Row) (d : Reads pattern row r) (f
 
   pub item_and : r.kind ≡ 18 → item_at (rows_of pattern) row ≡ condition_item_lem (and (as_condition (item_at (rows_of pattern) r.p)) (as_condition (item_at (rows_of pattern) r.q)))
   unfolding form make
-  item_and e = by_kind 18 e (eqb r.r 0 && eqb r.s 0) (isAnd r.p r.q) refl
+  item_and e = by_kind 18 e (eqb r.r 0 && eqb r.s 0) (is_and r.p r.q) refl
 
   pub item_or : r.kind ≡ 19 → item_at (rows_of pattern) row ≡ condition_item_lem (or (as_condition (item_at (rows_of pattern) r.p)) (as_condition (item_at (rows_of pattern) r.q)))
   unfolding form make
-  item_or e = by_kind 19 e (eqb r.r 0 && eqb r.s 0) (isOr r.p r.q) refl
+  item_or e = by_kind 19 e (eqb r.r 0 && eqb r.s 0) (is_or r.p r.q) refl
 
   pub item_neg : r.kind ≡ 20 → item_at (rows_of pattern) row ≡ condition_item_lem (neg (as_condition (item_at (rows_of pattern) r.p)))
   unfolding form make
@@ -123,8 +123,8 @@ module _ (pattern : List ℕ) (row : ℕ) (r : Row) (d : Reads pattern row r) (f
       go kind8 x = absurd (omega arith)
       go kind16 x = cut (eqb r.s 0) (is_constant r.p r.q r.r) refl
       go kind17 x = refl
-      go kind18 x = cut (eqb r.r 0 && eqb r.s 0) (isAnd r.p r.q) refl
-      go kind19 x = cut (eqb r.r 0 && eqb r.s 0) (isOr r.p r.q) refl
+      go kind18 x = cut (eqb r.r 0 && eqb r.s 0) (is_and r.p r.q) refl
+      go kind19 x = cut (eqb r.r 0 && eqb r.s 0) (is_or r.p r.q) refl
       go kind20 x = cut (eqb r.q 0 && (eqb r.r 0 && eqb r.s 0)) (is_not r.p) refl
       go (unlisted u) x = ap (λ (g : Form). as_pattern (make (item_at (rows_of pattern)) g)) (u.bad r.p r.q r.r r.s)
 
@@ -142,22 +142,22 @@ module _ (pattern : List ℕ) (row : ℕ) (r : Row) (d : Reads pattern row r) (f
       go kind2 x = cut (eqb r.r 0 && eqb r.s 0) (is_edge forward r.p r.q) refl
       go kind3 x = cut (eqb r.r 0 && eqb r.s 0) (is_edge backward r.p r.q) refl
       go kind4 x = cut (eqb r.r 0 && eqb r.s 0) (is_edge undirected r.p r.q) refl
-      go kind5 x = cut (eqb r.r 0 && eqb r.s 0) (isUnion r.p r.q) refl
-      go kind6 x = cut (eqb r.r 0 && eqb r.s 0) (isConcatenation r.p r.q) refl
-      go kind7 x = cut (eqb r.r 0 && eqb r.s 0) (isConditioned r.p r.q) refl
+      go kind5 x = cut (eqb r.r 0 && eqb r.s 0) (is_union r.p r.q) refl
+      go kind6 x = cut (eqb r.r 0 && eqb r.s 0) (is_concatenation r.p r.q) refl
+      go kind7 x = cut (eqb r.r 0 && eqb r.s 0) (is_conditioned r.p r.q) refl
       go kind8 x = absurd (x refl)
       go kind16 x = cut (eqb r.s 0) (is_constant r.p r.q r.r) refl
       go kind17 x = refl
-      go kind18 x = cut (eqb r.r 0 && eqb r.s 0) (isAnd r.p r.q) refl
-      go kind19 x = cut (eqb r.r 0 && eqb r.s 0) (isOr r.p r.q) refl
+      go kind18 x = cut (eqb r.r 0 && eqb r.s 0) (is_and r.p r.q) refl
+      go kind19 x = cut (eqb r.r 0 && eqb r.s 0) (is_or r.p r.q) refl
       go kind20 x = cut (eqb r.q 0 && (eqb r.r 0 && eqb r.s 0)) (is_not r.p) refl
       go (unlisted u) x = ap (λ (h : Form). on_pattern (repeats g) (make (item_at (rows_of pattern)) h)) (u.bad r.p r.q r.r r.s)
 
-  pub form_conditioned : r.kind ≡ 7 → form_at (rows_of pattern) row ≡ isConditioned r.p r.q
+  pub form_conditioned : r.kind ≡ 7 → form_at (rows_of pattern) row ≡ is_conditioned r.p r.q
   unfolding form
   form_conditioned e =
       let b : Bool = eqb r.r 0 && eqb r.s 0 in
-      let g : Form = isConditioned r.p r.q in
+      let g : Form = is_conditioned r.p r.q in
       let h : form (row_of r) ≡ if_zero b g = ap (λ (n : ℕ). form (five n r.p r.q r.r r.s)) e in
       form_read pattern row r d ∙ h ∙ used (rows_of pattern) row b g (ap (fine (rows_of pattern) row) (sym h) ∙ fine_read)
 
@@ -175,13 +175,13 @@ module _ (pattern : List ℕ) (row : ℕ) (r : Row) (d : Reads pattern row r) (f
       go kind2 x = cut (eqb r.r 0 && eqb r.s 0) (is_edge forward r.p r.q) refl
       go kind3 x = cut (eqb r.r 0 && eqb r.s 0) (is_edge backward r.p r.q) refl
       go kind4 x = cut (eqb r.r 0 && eqb r.s 0) (is_edge undirected r.p r.q) refl
-      go kind5 x = cut (eqb r.r 0 && eqb r.s 0) (isUnion r.p r.q) refl
-      go kind6 x = cut (eqb r.r 0 && eqb r.s 0) (isConcatenation r.p r.q) refl
+      go kind5 x = cut (eqb r.r 0 && eqb r.s 0) (is_union r.p r.q) refl
+      go kind6 x = cut (eqb r.r 0 && eqb r.s 0) (is_concatenation r.p r.q) refl
       go kind7 x = absurd (x refl)
       go kind8 x = cut (eqb r.q 0) (is_repetition r.p r.r r.s) refl
       go kind16 x = cut (eqb r.s 0) (is_constant r.p r.q r.r) refl
       go kind17 x = refl
-      go kind18 x = cut (eqb r.r 0 && eqb r.s 0) (isAnd r.p r.q) refl
-      go kind19 x = cut (eqb r.r 0 && eqb r.s 0) (isOr r.p r.q) refl
+      go kind18 x = cut (eqb r.r 0 && eqb r.s 0) (is_and r.p r.q) refl
+      go kind19 x = cut (eqb r.r 0 && eqb r.s 0) (is_or r.p r.q) refl
       go kind20 x = cut (eqb r.q 0 && (eqb r.r 0 && eqb r.s 0)) (is_not r.p) refl
       go (unlisted u) x = ap is_conditioned_form (u.bad r.p r.q r.r r.s)

@@ -15,7 +15,7 @@ use Rattle.rows.specs.Uses.{use_of_lem, allowed, Misused}
 use Rattle.rows.specs.Faults.{Tells}
 use Rattle.rows.specs.declared.row.Row.{Row}
 use Rattle.rows.proofs.Listed.{kind_of, fitted, fine_fitted, pattern_by_kind, condition_by_kind}
-use Rattle.rows.proofs.Listed.{high as kind-high}
+use Rattle.rows.proofs.Listed.{high as kind_high}
 
 -- ------------------------------------------------------------------ tests and their opposites
 not_le : (a b : ℕ) → ltb a b ≡ not (leb b a)
@@ -108,7 +108,7 @@ module _ (pattern : List ℕ) (i : ℕ) (r : Row) (d : Reads pattern i r) where
 
   pub mal_kind : 20 < r.kind → Tells (fault12 (rows_of pattern)) i true
   unfolding fault12 fine
-  mal_kind l = record { is = λ h. sym (ap not (ap (fine (rows_of pattern) i) (form_read pattern i r d ∙ (kind-high r.kind l).bad r.p r.q r.r r.s))) }
+  mal_kind l = record { is = λ h. sym (ap not (ap (fine (rows_of pattern) i) (form_read pattern i r d ∙ (kind_high r.kind l).bad r.p r.q r.r r.s))) }
 
   module _ (u₀ : ℕ) (b₀ : Bool) (e₀ : u₀ ≡ use_of_lem r.kind 0) (m₀ : Misused (rows_of pattern) i u₀ r.p b₀) where
     pub mal_p : b₀ ≡ true → Tells (fault12 (rows_of pattern)) i true

@@ -10,7 +10,7 @@ use lib.ListN.{length, drop}
 use lib.Seq.{drop-cons}
 use borrow.Author.Tests.{eq-eqb, ne_eqb, lt-ltb, le-ltb, eqb-true, eqb-false}
 use Rattle.meaning.specs.Basics.{if◌then◌else◌, each, All}
-use Rattle.meaning.specs.Table.{Form, is_node_lem, is_edge, isUnion, isConcatenation, isConditioned, is_repetition, is_constant, is_property, isAnd, isOr, is_not, is_bad}
+use Rattle.meaning.specs.Table.{Form, is_node_lem, is_edge, is_union, is_concatenation, is_conditioned, is_repetition, is_constant, is_property, is_and, is_or, is_not, is_bad}
 use Rattle.meaning.specs.Table.{rows_of, no_row, form, form_at, fine, names_of, times, condition_form, pattern_row_lem, condition_row, fault13}
 use Rattle.meaning.proofs.Logic.{and_l, and_r, no_false}
 use Rattle.meaning.proofs.Rows.{pattern_below, condition_below}
@@ -66,14 +66,14 @@ names_lower : (rows : List RowOf) (i : ℕ) (f : Form) → fine rows i f ≡ tru
 unfolding fine names_of
 names_lower rows i (is_node_lem x l) e = tt
 names_lower rows i (is_edge d x l) e = tt
-names_lower rows i (isUnion p q) e = (pattern_below rows i p (and_l _ _ e), (pattern_below rows i q (and_r (pattern_row_lem rows i p) _ e), tt))
-names_lower rows i (isConcatenation p q) e = (pattern_below rows i p (and_l _ _ e), (pattern_below rows i q (and_r (pattern_row_lem rows i p) _ e), tt))
-names_lower rows i (isConditioned p q) e = (pattern_below rows i p (and_l _ _ e), (condition_below rows i q (and_r (pattern_row_lem rows i p) _ e), tt))
+names_lower rows i (is_union p q) e = (pattern_below rows i p (and_l _ _ e), (pattern_below rows i q (and_r (pattern_row_lem rows i p) _ e), tt))
+names_lower rows i (is_concatenation p q) e = (pattern_below rows i p (and_l _ _ e), (pattern_below rows i q (and_r (pattern_row_lem rows i p) _ e), tt))
+names_lower rows i (is_conditioned p q) e = (pattern_below rows i p (and_l _ _ e), (condition_below rows i q (and_r (pattern_row_lem rows i p) _ e), tt))
 names_lower rows i (is_repetition p r s) e = (pattern_below rows i p (and_l _ _ e), tt)
 names_lower rows i (is_constant x k c) e = tt
 names_lower rows i (is_property x k y l) e = tt
-names_lower rows i (isAnd p q) e = (condition_below rows i p (and_l _ _ e), (condition_below rows i q (and_r (condition_row rows i p) _ e), tt))
-names_lower rows i (isOr p q) e = (condition_below rows i p (and_l _ _ e), (condition_below rows i q (and_r (condition_row rows i p) _ e), tt))
+names_lower rows i (is_and p q) e = (condition_below rows i p (and_l _ _ e), (condition_below rows i q (and_r (condition_row rows i p) _ e), tt))
+names_lower rows i (is_or p q) e = (condition_below rows i p (and_l _ _ e), (condition_below rows i q (and_r (condition_row rows i p) _ e), tt))
 names_lower rows i (is_not p) e = (condition_below rows i p e, tt)
 names_lower rows i is_bad e = tt
 
@@ -82,14 +82,14 @@ names_conditions : (rows : List RowOf) (i : ℕ) (f : Form) → fine rows i f �
 unfolding fine names_of condition_form condition_row
 names_conditions rows i (is_node_lem x l) e c = tt
 names_conditions rows i (is_edge d x l) e c = tt
-names_conditions rows i (isUnion p q) e c = no_false c
-names_conditions rows i (isConcatenation p q) e c = no_false c
-names_conditions rows i (isConditioned p q) e c = no_false c
+names_conditions rows i (is_union p q) e c = no_false c
+names_conditions rows i (is_concatenation p q) e c = no_false c
+names_conditions rows i (is_conditioned p q) e c = no_false c
 names_conditions rows i (is_repetition p r s) e c = no_false c
 names_conditions rows i (is_constant x k y) e c = tt
 names_conditions rows i (is_property x k y l) e c = tt
-names_conditions rows i (isAnd p q) e c = (and_r (ltb p i) _ (and_l (condition_row rows i p) _ e), (and_r (ltb q i) _ (and_r (condition_row rows i p) _ e), tt))
-names_conditions rows i (isOr p q) e c = (and_r (ltb p i) _ (and_l (condition_row rows i p) _ e), (and_r (ltb q i) _ (and_r (condition_row rows i p) _ e), tt))
+names_conditions rows i (is_and p q) e c = (and_r (ltb p i) _ (and_l (condition_row rows i p) _ e), (and_r (ltb q i) _ (and_r (condition_row rows i p) _ e), tt))
+names_conditions rows i (is_or p q) e c = (and_r (ltb p i) _ (and_l (condition_row rows i p) _ e), (and_r (ltb q i) _ (and_r (condition_row rows i p) _ e), tt))
 names_conditions rows i (is_not p) e c = (and_r (ltb p i) _ e, tt)
 names_conditions rows i is_bad e c = tt
 

@@ -10,7 +10,7 @@ use borrow.Author.Tests.{eqb-true, eqb-false, leb-true}
 use Rattle.meaning.specs.Basics.{eight}
 use Rattle.meaning.specs.Pattern.{Pattern, Condition, conditioned, named, in_var, in_condition}
 use Rattle.meaning.specs.Typing.{Found, type_of, fits, union_ty, concatenation_ty, repetition_ty, named_ty, conditioned_ty}
-use Rattle.meaning.specs.Table.{Form, Item, pattern_item, condition_item_lem, no_item, rows_of, item_at, form_at, fine, make, as_pattern, as_condition, any_of, is_clash_lem, is_variable_lem, untyped, on_pattern, fault16, pattern_row_lem, condition_row, is_node_lem, is_edge, isUnion, isConcatenation, isConditioned, is_repetition, is_constant, is_property, isAnd, isOr, is_not, is_bad}
+use Rattle.meaning.specs.Table.{Form, Item, pattern_item, condition_item_lem, no_item, rows_of, item_at, form_at, fine, make, as_pattern, as_condition, any_of, is_clash_lem, is_variable_lem, untyped, on_pattern, fault16, pattern_row_lem, condition_row, is_node_lem, is_edge, is_union, is_concatenation, is_conditioned, is_repetition, is_constant, is_property, is_and, is_or, is_not, is_bad}
 use Rattle.meaning.specs.Table.{Row as RowOf}
 use Rattle.meaning.proofs.Logic.{and_l, and_r, or_l, or_r, no_true, no_false, not_false}
 use Rattle.meaning.proofs.Rows.{item_is, pattern_below}
@@ -103,34 +103,34 @@ module _ (pattern : List ℕ) (ok : (i : ℕ) → i < length (rows_of pattern) �
   unfolding fine make as_pattern plain_of type_of is_conditioned_form
   plain_step i (is_node_lem y k) e c h x = refl
   plain_step i (is_edge δ y k) e c h x = refl
-  plain_step i (isUnion p q) e c h x = ap₂ union_ty (h p (pattern_below (rows_of pattern) i p (and_l _ _ e)) x) (h q (pattern_below (rows_of pattern) i q (and_r (pattern_row_lem (rows_of pattern) i p) _ e)) x)
-  plain_step i (isConcatenation p q) e c h x = ap₂ concatenation_ty (h p (pattern_below (rows_of pattern) i p (and_l _ _ e)) x) (h q (pattern_below (rows_of pattern) i q (and_r (pattern_row_lem (rows_of pattern) i p) _ e)) x)
-  plain_step i (isConditioned p q) e c h x = no_true c
+  plain_step i (is_union p q) e c h x = ap₂ union_ty (h p (pattern_below (rows_of pattern) i p (and_l _ _ e)) x) (h q (pattern_below (rows_of pattern) i q (and_r (pattern_row_lem (rows_of pattern) i p) _ e)) x)
+  plain_step i (is_concatenation p q) e c h x = ap₂ concatenation_ty (h p (pattern_below (rows_of pattern) i p (and_l _ _ e)) x) (h q (pattern_below (rows_of pattern) i q (and_r (pattern_row_lem (rows_of pattern) i p) _ e)) x)
+  plain_step i (is_conditioned p q) e c h x = no_true c
   plain_step i (is_repetition p n m) e c h x = ap repetition_ty (h p (pattern_below (rows_of pattern) i p (and_l _ _ e)) x)
   plain_step i (is_constant y k z) e c h x = refl
   plain_step i (is_property y k z w) e c h x = refl
-  plain_step i (isAnd p q) e c h x = refl
-  plain_step i (isOr p q) e c h x = refl
+  plain_step i (is_and p q) e c h x = refl
+  plain_step i (is_or p q) e c h x = refl
   plain_step i (is_not p) e c h x = refl
   plain_step i is_bad e c h x = refl
 
   -- a conditioned row with no fault
   plain_conditioned : (i : ℕ) (f : Form) → i < length (rows_of pattern) → fine (rows_of pattern) i f ≡ true → item_at (rows_of pattern) i ≡ make (item_at (rows_of pattern)) f → Clean i → fault16 (rows_of pattern) i ≡ false → ((j : ℕ) → j < i → Plain (row j)) → is_conditioned_form f ≡ true → Plain (as_pattern (make (item_at (rows_of pattern)) f))
   unfolding fine make as_pattern plain_of is_conditioned_form
-  plain_conditioned i (isConditioned p q) l e m n z h c x =
+  plain_conditioned i (is_conditioned p q) l e m n z h c x =
       let b : p < i = pattern_below (rows_of pattern) i p (and_l _ _ e) in
       let θ = as_condition (item_at (rows_of pattern) q) in
       let k : fits (plain_at pattern p) θ ≡ true = not_false (fits (plain_at pattern p) θ) (sym (conditioned_fault i p q l n (h p b) b m) ∙ z) in
       h p b x ∙ sym (fit_type (row p) θ x (ap (λ (f : ℕ → Found). fits f θ) (sym (fun_ext (h p b))) ∙ k))
   plain_conditioned i (is_node_lem y k) l e m n z h c x = no_false c
   plain_conditioned i (is_edge δ y k) l e m n z h c x = no_false c
-  plain_conditioned i (isUnion p q) l e m n z h c x = no_false c
-  plain_conditioned i (isConcatenation p q) l e m n z h c x = no_false c
+  plain_conditioned i (is_union p q) l e m n z h c x = no_false c
+  plain_conditioned i (is_concatenation p q) l e m n z h c x = no_false c
   plain_conditioned i (is_repetition p a b) l e m n z h c x = no_false c
   plain_conditioned i (is_constant y k w) l e m n z h c x = no_false c
   plain_conditioned i (is_property y k w v) l e m n z h c x = no_false c
-  plain_conditioned i (isAnd p q) l e m n z h c x = no_false c
-  plain_conditioned i (isOr p q) l e m n z h c x = no_false c
+  plain_conditioned i (is_and p q) l e m n z h c x = no_false c
+  plain_conditioned i (is_or p q) l e m n z h c x = no_false c
   plain_conditioned i (is_not p) l e m n z h c x = no_false c
   plain_conditioned i is_bad l e m n z h c x = no_false c
 
