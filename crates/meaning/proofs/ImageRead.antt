@@ -11,7 +11,6 @@ use borrow.Author.Tests.{leb-true, ltb-true}
 use Rattle.meaning.proofs.Causes.{at_row_none, first_none, lowest_none, whole_none}
 use Rattle.meaning.proofs.Logic.{and_l, and_r, no_some, no_true, not_false, some_inj}
 use Rattle.meaning.proofs.Opened.{opened}
-use Rattle.meaning.specs.Assignment.{one}
 use Rattle.meaning.specs.Basics.{Cause, at_row, first_of, lowest, up_from, rowless}
 use Rattle.meaning.specs.Graph.{EdgeRow, Valid}
 use Rattle.meaning.specs.Image.{bad_edge_lem, bad_label_lem, bad_node_lem, bad_property_lem, edge_cell_lem, edge_count, edge_row, good_directory_lem, graph_of, image_fault, label_count, node_count, property_count, row_fault, too_many}

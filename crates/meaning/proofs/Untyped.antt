@@ -11,7 +11,6 @@ use Rattle.meaning.proofs.Accepted.{WellFormed, clear, rows_fine, typed_pattern}
 use Rattle.meaning.proofs.Causes.{lowest_found, lowest_some}
 use Rattle.meaning.proofs.Logic.{either, is_false, no_false, no_none, or_cases, some_inj}
 use Rattle.meaning.proofs.Opened.{opened}
-use Rattle.meaning.proofs.Rows.{item_is}
 use Rattle.meaning.proofs.Types.{well_typed_iff}
 use Rattle.meaning.proofs.Variables.{var_all}
 use Rattle.meaning.specs.Basics.{Cause, at_row, eight, first_of, lowest}
