@@ -24,7 +24,7 @@ use Rattle.image.specs.Sections.{Checked}
 use Rattle.image.specs.declared.sections.Sections.{Sections}
 use Rattle.image.proofs.Edges.{ends_are_nodes}
 use Rattle.image.proofs.Rising.{labels_rise, properties_rise}
-use Rattle.compiled.specs.Words.{edge_in_lem, edge_of, edges_in_lem, graph_in, labels_in, names, nodes_in_lem, number_in, properties_in, some_names, value_in, value_of}
+use Rattle.compiled.specs.Words.{edge_in_lem, edge_of, edges_in_lem, graph_in, labels_in, names, nodes_in_lem, number_in, properties_in, some_names, value_of}
 use Rattle.compiled.specs.Parts.{HeadKept, restrictor_in, table_in}
 use Rattle.compiled.specs.Sound.{Lawful, Sound}
 use Rattle.compiled.specs.Copies.{EdgeWord, GraphFilled, HeadFilled, LabelWord, PartFilled, PropertyWord, Put, RowsFilled, TableWord}

@@ -1,7 +1,11 @@
 // Standard input: image length in bytes, pattern length in words, restrictor, then image and pattern. Input that ends early
-// counts as far as it goes: bytes of the head that are missing are 0, and half a word at the end is dropped.
-ghost use Rattle.std.specs.Prelude.{◌≤◌, length};
-ghost use Rattle.io.specs.Counts.{IsPrefixLen};
+// counts as far as it goes: bytes of the head that are missing are 0, and half a word at the end is dropped. Input that cannot be
+// read is an error, the one that the read gave.
+ghost use Rattle.std.specs.Prelude.{◌≤◌, length, IfOk};
+ghost use Rattle.std.specs.Io.{ReadsAtMost};
+
+use std::io;
+use std::io::Read;
 
 // The lesser of two.
 fn least(a: usize, b: usize) -> usize
@@ -10,12 +14,27 @@ fn least(a: usize, b: usize) -> usize
     if a < b { a } else { b }
 }
 
+// Reads until the bytes are full or the input ends, and gives how many there were.
+pub fn read_full(input: &mut impl Read, bytes: &mut [u8]) -> io::Result<usize>
+    ensures { ReadsAtMost result bytes.new }
+{
+    let mut done: usize = 0;
+    while done < bytes.len() {
+        let count = input.read(&mut bytes[done..])?;
+        if count == 0 {
+            break;
+        }
+        done += count;
+    }
+    Ok(done)
+}
+
 // Reads n bytes, and gives how many there were.
-fn read(bytes: &mut [u8], n: usize) -> usize
-    ensures { result ≤ length bytes.new }
+fn read(input: &mut impl Read, bytes: &mut [u8], n: usize) -> io::Result<usize>
+    ensures { IfOk result (λ count. count ≤ length bytes.new) }
 {
     let most = least(n, bytes.len());
-    io::read_full(0, &mut bytes[0..most])
+    read_full(input, &mut bytes[0..most])
 }
 
 // The third number of the head.
@@ -24,10 +43,14 @@ pub fn restrictor(head: &[u8; 6]) -> u16 {
 }
 
 // As many bytes as the head says, or as there are.
-pub fn read_image(head: &[u8; 6], image: &mut [u8; 65536]) -> usize
-    ensures { IsPrefixLen result image.new }
+pub fn read_image(
+    input: &mut impl Read,
+    head: &[u8; 6],
+    image: &mut [u8; 65536],
+) -> io::Result<usize>
+    ensures { ReadsAtMost result image.new }
 {
-    read(image, words::size_at(head, 0))
+    read(input, image, words::size_at(head, 0))
 }
 
 // The first words that the bytes hold.
@@ -43,12 +66,17 @@ fn take_words(words: &mut [u16], bytes: &[u8], count: usize)
 }
 
 // Of a pattern over 321 words the first 321 are used, which is one word more than any table has.
-pub fn read_pattern(head: &[u8; 6], pattern: &mut [u16; 321]) -> usize
-    ensures { IsPrefixLen result pattern.new × (result ≤ 321) }
+pub fn read_pattern(
+    input: &mut impl Read,
+    head: &[u8; 6],
+    pattern: &mut [u16; 321],
+) -> io::Result<usize>
+    ensures prefix { ReadsAtMost result pattern.new }
+    ensures most { IfOk result (λ count. count ≤ 321) }
 {
     let mut bytes = [0u8; 642];
     let most = least(words::size_at(head, 2), 321);
-    let count = read(&mut bytes, 2 * most) / 2;
+    let count = read(input, &mut bytes, 2 * most)? / 2;
     take_words(pattern, &bytes, count);
-    count
+    Ok(count)
 }

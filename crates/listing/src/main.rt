@@ -3,13 +3,21 @@
 
 mod input;
 
+use std::io;
+
 // Reads all, then prints.
-fn main() {
+fn main(rt: HostRuntime) -> io::Result<()> {
+    let mut stdin = rt.stdin();
     let mut head = [0u8; 6];
-    io::read_full(0, &mut head);
-    let mut image = io::large_buffer();
-    let bytes = input::read_image(&head, &mut image);
+    input::read_full(&mut stdin, &mut head)?;
+    let mut image = [0u8; 65536];
+    let bytes = input::read_image(&mut stdin, &head, &mut image)?;
     let mut pattern = [0u16; 321];
-    let words = input::read_pattern(&head, &mut pattern);
-    printing::print_listing(&image[..bytes], &pattern[..words], input::restrictor(&head));
+    let words = input::read_pattern(&mut stdin, &head, &mut pattern)?;
+    printing::print_listing(
+        &rt,
+        &image[..bytes],
+        &pattern[..words],
+        input::restrictor(&head),
+    )
 }

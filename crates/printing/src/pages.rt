@@ -1,9 +1,9 @@
 // A whole listing: a page is filled, printed, and the next one filled after its last record.
-ghost use Rattle.std.specs.Prelude.{◌≡◌, ◌≤◌, length};
+ghost use Rattle.std.specs.Prelude.{◌≡◌, ℕ, ◌≤◌, length, IfOk, OnErr};
 ghost use Rattle.std.proofs.Math.Option.{none};
 ghost use Rattle.meaning.specs.QueryWords.{query_fault};
 ghost use Rattle.meaning.specs.Report.{reported};
-ghost use Rattle.printing.specs.Run.{Filled, First, Followed, OnePart, TypesOf, Whole};
+ghost use Rattle.printing.specs.Run.{Filled, First, Followed, OnePart, Shown, TypesOf, Whole};
 
 use crate::bookmark::take_mark;
 use crate::lines::{put_done, put_page, put_refusal};
@@ -13,6 +13,7 @@ use crate::text::{Buffer, flush};
 use crate::types::put_types;
 use gpc::{gpc_check_query, gpc_fill_page};
 use records::Record;
+use std::io;
 
 // A page, and as many words for a call to work in: no record is longer than such a page.
 type Words = [u16; Record::WORK];
@@ -50,35 +51,43 @@ fn fill_next(image: &[u8], query: &[u16], types: &[u16; 72], page: &mut Words, r
 }
 
 // Prints the records of a page.
-fn print_page(out: &mut Buffer, types: &[u16; 72], page: &Words, report: &Report)
+fn print_page(
+    rt: &impl Print,
+    out: &mut Buffer,
+    types: &[u16; 72],
+    page: &Words,
+    report: &Report,
+) -> io::Result<()>
     requires { reported 3 report.now ≤ 20000 }
 {
-    let end = put_page(out, types, page, used_of(report));
-    flush(out, end);
+    let end = put_page(rt, out, types, page, used_of(report))?;
+    flush(rt, out, end)
 }
 
 // Prints the first page, which is filled already, and the pages after it, each before the next is looked for; and gives the count
 // of their records. The loop keeps `Shown`: what is printed is the last page of a host's run. Each page but the last has a record, so
-// there is a last one.
+// there is a last one. An error is that of a write, and leaves the page that was being printed, which is the last of a run so far.
 fn print_pages(
+    rt: &impl Print,
     out: &mut Buffer,
     image: &[u8],
     query: &[u16],
     types: &[u16; 72],
     page: &mut Words,
     report: &mut Report,
-) -> u64
+) -> io::Result<u64>
     requires { TypesOf query.now types.now × First image.now query.now page.old report.old }
-    ensures { Whole image.now query.now page.new report.new result }
+    ensures ok { IfOk result (λ count. Whole image.now query.now page.new report.new count) }
+    ensures err { OnErr result ((count : ℕ) × Shown image.now query.now page.new report.new count) }
 {
-    print_page(out, types, page, report);
+    print_page(rt, out, types, page, report)?;
     let mut count = number_of(report, 2);
     while number_of(report, 4) == 0 {
         fill_next(image, query, types, page, report);
-        print_page(out, types, page, report);
-        count = std::num::wrapping_add_u64(count, number_of(report, 2));
+        print_page(rt, out, types, page, report)?;
+        count = count.wrapping_add(number_of(report, 2));
     }
-    count
+    Ok(count)
 }
 
 // The types of the variables, as the checker writes them.
@@ -94,23 +103,24 @@ fn types_of(query: &[u16]) -> [u16; 72]
 
 // Prints the types and the pages, and puts the last line.
 fn put_listing(
+    rt: &impl Print,
     out: &mut Buffer,
     image: &[u8],
     query: &[u16],
     page: &mut Words,
     report: &mut Report,
-) -> usize
+) -> io::Result<usize>
     requires { OnePart query.now × First image.now query.now page.old report.old }
 {
     let types = types_of(query);
-    let end = put_types(out, &types);
-    flush(out, end);
-    let count = print_pages(out, image, query, &types, page, report);
-    put_done(out, count)
+    let end = put_types(rt, out, &types)?;
+    flush(rt, out, end)?;
+    let count = print_pages(rt, out, image, query, &types, page, report)?;
+    put_done(rt, out, count)
 }
 
 // Puts why a call was refused, or its page and those after it.
-fn put_answer(out: &mut Buffer, image: &[u8], query: &[u16]) -> usize
+fn put_answer(rt: &impl Print, out: &mut Buffer, image: &[u8], query: &[u16]) -> io::Result<usize>
     requires { OnePart query.now }
 {
     let mut page = [0u16; Record::WORK];
@@ -118,25 +128,37 @@ fn put_answer(out: &mut Buffer, image: &[u8], query: &[u16]) -> usize
     fill(image, query, &query[..0], &mut page, &mut report);
     let number = number_of(&report, 0);
     if number != 0 {
-        return put_refusal(out, number, number_of(&report, 1));
+        return put_refusal(rt, out, number, number_of(&report, 1));
     }
-    put_listing(out, image, query, &mut page, &mut report)
+    put_listing(rt, out, image, query, &mut page, &mut report)
 }
 
 // The same for a pattern and a restrictor, as the words of a query of one part.
-fn put_pattern(out: &mut Buffer, image: &[u8], pattern: &[u16], restrictor: u16) -> usize
+fn put_pattern(
+    rt: &impl Print,
+    out: &mut Buffer,
+    image: &[u8],
+    pattern: &[u16],
+    restrictor: u16,
+) -> io::Result<usize>
     requires { length pattern.now ≤ 325 }
 {
     let mut query = [0u16; MOST_WORDS];
     let words = query_of(&mut query, pattern, restrictor);
-    put_answer(out, image, &query[..words])
+    put_answer(rt, out, image, &query[..words])
 }
 
-// Prints the listing of an image, a pattern and a restrictor, or why it is refused.
-pub fn print_listing(image: &[u8], pattern: &[u16], restrictor: u16)
+// Prints the listing of an image, a pattern and a restrictor, or why it is refused. An error is that of the first write that failed:
+// nothing is looked for or written after it.
+pub fn print_listing(
+    rt: &impl Print,
+    image: &[u8],
+    pattern: &[u16],
+    restrictor: u16,
+) -> io::Result<()>
     requires { length pattern.now ≤ 325 }
 {
-    let mut out = io::large_buffer();
-    let end = put_pattern(&mut out, image, pattern, restrictor);
-    flush(&out, end);
+    let mut out: Buffer = [0; 65536];
+    let end = put_pattern(rt, &mut out, image, pattern, restrictor)?;
+    flush(rt, &out, end)
 }

@@ -4,4 +4,4 @@ use Rattle.std.proofs.Common.{arith}
 use Rattle.printing.proofs.pages.put_pattern.Goals as goal
 
 pub put_answer-requires : goal.put_answer-requires
-put_answer-requires c = search (asks_one_part, arith)
+put_answer-requires g c = search (asks_one_part, arith)
