@@ -14,7 +14,8 @@ use Rattle.matcher.proofs.Lengths.{product_between}
 use Rattle.matcher.proofs.Opened.{matcher_opened}
 use Rattle.meaning.proofs.Logic.{all_map, either, no_true}
 use Rattle.meaning.specs.Assignment.{Assignment, Factor, path_of_lem}
-use Rattle.meaning.specs.Basics.{All, AtMost, if◌then◌else◌}
+use Rattle.std.specs.Prelude.{if◌then◌else◌}
+use Rattle.meaning.specs.Basics.{All, AtMost}
 use Rattle.meaning.specs.Graph.{Graph, Walk, len}
 use Rattle.meaning.specs.Meaning.{Meaning, Product}
 use Rattle.meaning.specs.Pattern.{Pattern, concatenation, conditioned, edge, node, repetition, union}

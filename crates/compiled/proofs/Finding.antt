@@ -10,7 +10,7 @@ use lib.Dec.{eqb, ltb}
 use lib.ListN.{get_or}
 use borrow.Author.Tests.{eq-eqb, ne_eqb, eqb-true, eqb-false, ltb-true, ltb-false}
 use Rattle.meaning.specs.Image.{some_row_lem}
-use Rattle.meaning.specs.Basics.{if◌then◌else◌}
+use Rattle.std.specs.Prelude.{if◌then◌else◌}
 use Rattle.meaning.specs.Graph.{Element}
 use Rattle.meaning.proofs.Logic.{and_both, both_equal, is_false, or_l, or_r}
 use Rattle.compiled.specs.Words.{graph_in, is_below, labels_in, names, number_in, pair_of, properties_in, some_names, value_in, value_of}

@@ -12,7 +12,7 @@ use lib.Dec.{eqb}
 use Rattle.meaning.specs.Answer.{Restrictor, restrictor_of, simple, trail}
 use Rattle.meaning.proofs.Causes.{whole_none}
 use Rattle.meaning.proofs.Logic.{or_false_r}
-use Rattle.meaning.specs.Basics.{if◌then◌else◌}
+use Rattle.std.specs.Prelude.{if◌then◌else◌}
 use Rattle.meaning.specs.Table.{bad_length, pattern_fault}
 use Rattle.path.specs.Masks.{base_of}
 use Rattle.path.specs.declared.base.Base.TheVariants.{Simple, Trail}

@@ -8,7 +8,8 @@ use lib.Dec.{leb, ltb}
 use lib.ListN.{length}
 use borrow.Author.Tests.{leb-true, leb-false, le-ltb, lt-ltb}
 use Rattle.meaning.proofs.Logic.{not_true, not_false}
-use Rattle.meaning.specs.Basics.{Cause, if◌then◌else◌}
+use Rattle.std.specs.Prelude.{if◌then◌else◌}
+use Rattle.meaning.specs.Basics.{Cause}
 use Rattle.meaning.specs.Image.{image_fault}
 use Rattle.meaning.specs.Report.{over, report_bytes, cause_bytes, wide_enough_lem}
 use Rattle.meaning.specs.Operations.{ReadLeft, read_image, CheckLeft}

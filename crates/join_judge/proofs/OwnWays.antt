@@ -16,7 +16,8 @@ use Rattle.joins.specs.Projected.{project, project_by}
 use Rattle.matcher.proofs.Places.{view_at}
 use Rattle.matcher.specs.Records.{after_slot, after_slots}
 use Rattle.meaning.proofs.Eight.{from, from_end, from_next, from_one}
-use Rattle.meaning.specs.Basics.{eight, if◌then◌else◌}
+use Rattle.std.specs.Prelude.{if◌then◌else◌}
+use Rattle.meaning.specs.Basics.{eight}
 use Rattle.meaning.specs.Pattern.{in_var}
 use Rattle.meaning.specs.Typing.{Found, type_of}
 use Rattle.parts.proofs.TypeLaws.{type_unused, type_used}

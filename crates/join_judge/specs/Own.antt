@@ -1,11 +1,11 @@
 -- The own words of one part: its path, and the values of the variables that it uses.
-use Rattle.std.specs.Prelude.{◌≡◌, List, [], ◌++◌, ◌+◌, ◌-◌, ◌≤◌, ℕ, drop, length, take}
+use Rattle.std.specs.Prelude.{◌≡◌, List, [], ◌++◌, ◌+◌, ◌-◌, ◌≤◌, ℕ, drop, length, take, if◌then◌else◌}
 use Rattle.std.proofs.Math.Option.{some}
 use Rattle.compiled.specs.Parts.{pattern_in_lem}
 use Rattle.joins.specs.Projected.{project}
 use Rattle.matcher.proofs.Places.{view_at}
 use Rattle.matcher.specs.Records.{after_slots}
-use Rattle.meaning.specs.Basics.{eight, if◌then◌else◌}
+use Rattle.meaning.specs.Basics.{eight}
 use Rattle.meaning.specs.Pattern.{in_var}
 use Rattle.meaning.specs.Typing.{Found}
 use Rattle.records.specs.Ends.{TypesAre}

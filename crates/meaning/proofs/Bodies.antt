@@ -10,7 +10,8 @@ use borrow.Author.Tests.{leb-false}
 use Rattle.meaning.proofs.Logic.{and_l, and_r}
 use Rattle.meaning.proofs.Opened.{opened}
 use Rattle.meaning.proofs.Rows.{every_row, pattern_below}
-use Rattle.meaning.specs.Basics.{if◌then◌else◌, max}
+use Rattle.std.specs.Prelude.{if◌then◌else◌}
+use Rattle.meaning.specs.Basics.{max}
 use Rattle.meaning.specs.Pattern.{Sound, edgeless, nesting}
 use Rattle.meaning.specs.Table.{Form, Item, Row, as_pattern, condition_item_lem, condition_row, fault14, fault15, fine, form_at, is_and, is_bad, is_concatenation, is_conditioned, is_constant, is_edge, is_node_lem, is_not, is_or, is_property, is_repetition, is_union, item_at, make, no_item, on_pattern, pattern_item, pattern_row_lem, repeats, two_deep}
 

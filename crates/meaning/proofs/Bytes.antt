@@ -11,7 +11,8 @@ use borrow.Author.Tests.{leb-true}
 use Rattle.meaning.proofs.Logic.{no_false}
 use Rattle.meaning.proofs.Opened.{opened}
 use Rattle.meaning.proofs.Pages.{printed_records, unless_overrun}
-use Rattle.meaning.specs.Basics.{All, Cause, first_of, if◌then◌else◌, keep, only, rowless}
+use Rattle.std.specs.Prelude.{if◌then◌else◌}
+use Rattle.meaning.specs.Basics.{All, Cause, first_of, keep, only, rowless}
 use Rattle.meaning.specs.Listing.{Before}
 use Rattle.meaning.specs.Page.{Lent, Outcome, answerable, filled, fit, join, needs, outcome, printing, unanswered, unless_fault, unless_overrun_lem}
 use Rattle.meaning.specs.Record.{Record}

@@ -16,7 +16,8 @@ use Rattle.meaning.proofs.Opened.{opened}
 use Rattle.meaning.proofs.Size.{len_append, non_empty_len}
 use Rattle.meaning.proofs.Unused.{absent→unused, typed→used, unused→absent}
 use Rattle.meaning.specs.Assignment.{AllOf, Assignment, Conforms, Factor, Of, Value, bind, count, entries, group, nothing, one, path_of_lem, value_of}
-use Rattle.meaning.specs.Basics.{All, if◌then◌else◌, or_else}
+use Rattle.std.specs.Prelude.{if◌then◌else◌}
+use Rattle.meaning.specs.Basics.{All, or_else}
 use Rattle.meaning.specs.Graph.{Graph, Valid, Walk, len, the_edge, the_node}
 use Rattle.meaning.specs.Meaning.{Meaning, Product}
 use Rattle.meaning.specs.Pattern.{Pattern, Sound, concatenation, conditioned, edge, in_condition, in_var, named, node, repetition, union}

@@ -13,7 +13,8 @@ use Rattle.meaning.proofs.Logic.{and_l, and_r, either, no_true, not_false}
 use Rattle.meaning.proofs.Members.{each→}
 use Rattle.meaning.proofs.Opened.{opened}
 use Rattle.meaning.proofs.Rows.{condition_below, pattern_below}
-use Rattle.meaning.specs.Basics.{◌∈◌, each, if◌then◌else◌}
+use Rattle.std.specs.Prelude.{if◌then◌else◌}
+use Rattle.meaning.specs.Basics.{◌∈◌, each}
 use Rattle.meaning.specs.Table.{Form, Row, condition_row, fault13, fine, form, form_at, is_and, is_bad, is_concatenation, is_conditioned, is_constant, is_edge, is_node_lem, is_not, is_or, is_property, is_repetition, is_union, names_of, no_row, pattern_form, pattern_row_lem, times}
 
 times_member : (x : ℕ) (l : List ℕ) → times x l ≢ 0 → x ∈ l

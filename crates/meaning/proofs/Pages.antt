@@ -8,7 +8,8 @@ use lib.Dec.{leb, ltb}
 use lib.ListN.{drop, length}
 use Rattle.meaning.proofs.Logic.{no_false}
 use Rattle.meaning.proofs.Opened.{opened}
-use Rattle.meaning.specs.Basics.{Cause, first_of, if◌then◌else◌, rowless}
+use Rattle.std.specs.Prelude.{if◌then◌else◌}
+use Rattle.meaning.specs.Basics.{Cause, first_of, rowless}
 use Rattle.meaning.specs.Machine.{is_done, printed_count}
 use Rattle.meaning.specs.Page.{Lent, Outcome, filled, fit, answerable, is_empty, needs, outcome, overrun, printed, printing, refused, unanswered, unless_fault, unless_overrun_lem}
 use Rattle.meaning.specs.Record.{Record}

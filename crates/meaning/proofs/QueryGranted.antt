@@ -21,7 +21,8 @@ use Rattle.meaning.proofs.QueryReading.{PathsFew, ReadBy, paths_count, query_con
 use Rattle.meaning.proofs.QuerySize.{QueryAccepted, accepted_sound, paths_few, query_size}
 use Rattle.meaning.proofs.QueryTypes.{element_inj, query_unused→absent}
 use Rattle.meaning.specs.Answer.{Base, longest, restrictor_of, simple, trail}
-use Rattle.meaning.specs.Basics.{All, Cause, ◌∈◌, first_of, if◌then◌else◌, up_from, rowless}
+use Rattle.std.specs.Prelude.{if◌then◌else◌}
+use Rattle.meaning.specs.Basics.{All, Cause, ◌∈◌, first_of, up_from, rowless}
 use Rattle.meaning.specs.FullListing.{unless_refused}
 use Rattle.meaning.specs.Graph.{Graph, Walk}
 use Rattle.meaning.specs.Image.{edge_count, edge_row, graph_of, image_fault}

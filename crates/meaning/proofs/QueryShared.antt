@@ -20,7 +20,8 @@ use Rattle.meaning.proofs.QueryTypes.{concatenation_absent, element_inj, no_elem
 use Rattle.meaning.proofs.Types.{has_iff}
 use Rattle.meaning.proofs.Unused.{absent→unused, unused→absent}
 use Rattle.meaning.specs.Answer.{restrictor_of}
-use Rattle.meaning.specs.Basics.{All, ◌∈◌, if◌then◌else◌}
+use Rattle.std.specs.Prelude.{if◌then◌else◌}
+use Rattle.meaning.specs.Basics.{All, ◌∈◌}
 use Rattle.meaning.specs.Pattern.{Pattern, in_var}
 use Rattle.meaning.specs.Query.{QueryFound, element, joining_ty, naming, naming_ty, path, query_type_of, unnamed}
 use Rattle.meaning.specs.QueryRecord.{twelve}

@@ -15,7 +15,8 @@ use Rattle.meaning.proofs.Opened.{opened}
 use Rattle.meaning.proofs.Size.{length_places}
 use Rattle.meaning.proofs.Words.{only_nothing}
 use Rattle.meaning.specs.Assignment.{AllOf, Assignment, Conforms, Entries, Of, Value, count, entry, group, no_entry, nothing, one}
-use Rattle.meaning.specs.Basics.{All, eight, if◌then◌else◌}
+use Rattle.std.specs.Prelude.{if◌then◌else◌}
+use Rattle.meaning.specs.Basics.{All, eight}
 use Rattle.meaning.specs.Graph.{Walk}
 use Rattle.meaning.specs.Page.{join}
 use Rattle.meaning.specs.Record.{Record, element_word, entries_words, group_size_lem, path_size_lem, path_words_lem, record_of_lem, record_size_lem, records_in, slot_size_lem, slot_words_lem, value_size_lem, value_words_lem, variable_words, variables_size_lem}

@@ -7,7 +7,8 @@ use lib.ListN.{replicate}
 use Rattle.meaning.proofs.Examples.{Example, P, T, computed, lists, low_first, refuses}
 use Rattle.meaning.proofs.Opened.{opened}
 use Rattle.meaning.proofs.QueryOpened.{query_opened}
-use Rattle.meaning.specs.Basics.{Cause, if◌then◌else◌, up_from}
+use Rattle.std.specs.Prelude.{if◌then◌else◌}
+use Rattle.meaning.specs.Basics.{Cause, up_from}
 use Rattle.meaning.specs.Image.{image_fault, number}
 use Rattle.meaning.specs.Machine.{Turn}
 use Rattle.meaning.specs.Operations.{read_image}

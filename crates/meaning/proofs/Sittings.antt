@@ -12,7 +12,8 @@ use borrow.Author.Tests.{lt-ltb, ltb-false, ltb-true}
 use Rattle.meaning.proofs.Bytes.{digits_read, reported_count}
 use Rattle.meaning.proofs.Logic.{either}
 use Rattle.meaning.proofs.QueryOpened.{query_opened}
-use Rattle.meaning.specs.Basics.{All, Cause, first_of, if◌then◌else◌, rowless}
+use Rattle.std.specs.Prelude.{if◌then◌else◌}
+use Rattle.meaning.specs.Basics.{All, Cause, first_of, rowless}
 use Rattle.meaning.specs.Lines.{PageCall, lines, lines_of, sitting_after, sitting_run}
 use Rattle.meaning.specs.Page.{Left, Lent, Outcome, after, answerable, filled, join, left, needs, outcome, overrun, printed, printing, refused, unanswered, unless_fault, unless_overrun_lem}
 use Rattle.meaning.specs.QueryListing.{fill_page_lem, query_fixed_fault, query_full_listing}

@@ -13,7 +13,8 @@ use Rattle.meaning.proofs.Factors.{NonEmpty}
 use Rattle.meaning.proofs.Logic.{all_map, either}
 use Rattle.meaning.proofs.Opened.{opened}
 use Rattle.meaning.specs.Assignment.{Assignment, Entries, Factor, Value, bind, entries, group, nothing, one, path_of_lem, value_of}
-use Rattle.meaning.specs.Basics.{All, eight, if◌then◌else◌, max, or_else}
+use Rattle.std.specs.Prelude.{if◌then◌else◌}
+use Rattle.meaning.specs.Basics.{All, eight, max, or_else}
 use Rattle.meaning.specs.Graph.{Graph, Walk, ◌·◌, len, step, stop, the_edge, the_node}
 use Rattle.meaning.specs.Meaning.{Meaning, Product}
 use Rattle.meaning.specs.Pattern.{Pattern, Sound, concatenation, conditioned, edge, in_var, nesting, node, repetition, union}

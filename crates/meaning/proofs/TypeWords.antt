@@ -13,7 +13,8 @@ use Rattle.meaning.proofs.Logic.{and_l, and_r}
 use Rattle.meaning.proofs.Opened.{opened}
 use Rattle.meaning.proofs.Types.{has_iff}
 use Rattle.meaning.proofs.Unused.{unused→absent}
-use Rattle.meaning.specs.Basics.{each, if◌then◌else◌, max, up_from}
+use Rattle.std.specs.Prelude.{if◌then◌else◌}
+use Rattle.meaning.specs.Basics.{each, max, up_from}
 use Rattle.meaning.specs.Pattern.{Pattern, in_var, nesting}
 use Rattle.meaning.specs.Table.{found_words, is_variable_lem, padded, ty_words, type_words}
 use Rattle.meaning.specs.Typing.{Edge, Found, Group, Has, Maybe, Node, Ty, has_both, has_conditioned, has_edge, has_first, has_group, has_left, has_left_maybe, has_node, has_right, has_right_maybe, has_second, has_shared, opt, type_of}

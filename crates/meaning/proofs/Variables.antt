@@ -12,7 +12,7 @@ use borrow.Author.Tests.{eqb-false, eqb-true, le-leb}
 use Rattle.meaning.proofs.Logic.{and_l, and_r, either, no_false, or_cases}
 use Rattle.meaning.proofs.Opened.{opened}
 use Rattle.meaning.proofs.Rows.{condition_below, every_row, pattern_below}
-use Rattle.meaning.specs.Basics.{if◌then◌else◌}
+use Rattle.std.specs.Prelude.{if◌then◌else◌}
 use Rattle.meaning.specs.Pattern.{in_condition, in_var, named}
 use Rattle.meaning.specs.Table.{Form, Item, Row, as_condition, as_pattern, condition_item_lem, condition_row, fine, form_at, is_and, is_bad, is_concatenation, is_conditioned, is_constant, is_edge, is_node_lem, is_not, is_or, is_property, is_repetition, is_union, is_variable_lem, item_at, make, no_item, pattern_item, pattern_row_lem, unless}
 

@@ -1,8 +1,8 @@
 -- 000, Section 5: values, assignments, and when an assignment satisfies a condition.
-use Rattle.std.specs.Prelude.{◌≡◌, List, [], ◌∷◌, ◌⊎◌, ℕ, suc, ◌<◌, ◌≤◌, eqb}
+use Rattle.std.specs.Prelude.{◌≡◌, List, [], ◌∷◌, ◌⊎◌, ℕ, suc, ◌<◌, ◌≤◌, eqb, if◌then◌else◌}
 use Rattle.std.proofs.Math.Option.{Option, none, some}
 use Rattle.std.proofs.Math.Decide.{ℕ_discrete}
-use Rattle.meaning.specs.Basics.{if◌then◌else◌, or_else}
+use Rattle.meaning.specs.Basics.{or_else}
 use Rattle.meaning.specs.Graph.{Element, the_node, the_edge, Element-discrete, Graph, Walk, Walk-discrete}
 use Rattle.meaning.specs.Pattern.{Condition, equals_constant, equals_property, and, or, neg, Pattern, in_var}
 use Rattle.meaning.specs.Typing.{Ty, Node, Edge, Maybe, Group, Found, absent, clash, typed}

@@ -1,14 +1,9 @@
--- Small tools that the definitions share: choice, lists, the lowest row with a fault.
+-- Small tools that the definitions share: lists, the lowest row with a fault.
 use mathlib.Core.List.{List, [], ◌∷◌, ◌++◌, Memᴰ}
 use Rattle.std.proofs.Math.Option.{Option, none, some}
-use Rattle.std.specs.Prelude.{Bool, true, false, ℕ, zero, suc, ◌≤◌, leb}
+use Rattle.std.specs.Prelude.{Bool, true, false, ℕ, zero, suc, ◌≤◌, leb, if◌then◌else◌}
 
-infix 20 if◌then◌else◌
 infix 50 ◌∈◌
-abbrev pub if◌then◌else◌ {ℓ} : {A : Type ℓ} → Bool → A → A → A
-if◌then◌else◌ true a b = a
-if◌then◌else◌ false a b = b
-
 -- what a decision says
 unfoldable pub same : {A : Type 0} → Dec A → Bool
 same (yes p) = true

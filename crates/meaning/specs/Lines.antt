@@ -1,6 +1,5 @@
 -- 02, Q-3: page calls of one sitting, of whatever listings, each lent the sitting that the one before left; and the lines handed out.
-use Rattle.std.specs.Prelude.{List, [], ◌∷◌, ◌+◌, ℕ, eqb}
-use Rattle.meaning.specs.Basics.{if◌then◌else◌}
+use Rattle.std.specs.Prelude.{List, [], ◌∷◌, ◌+◌, ℕ, eqb, if◌then◌else◌}
 use Rattle.meaning.specs.Page.{Left}
 use Rattle.meaning.specs.QueryListing.{fill_page_lem}
 use Rattle.meaning.specs.Report.{reported}

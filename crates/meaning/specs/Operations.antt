@@ -1,8 +1,8 @@
 -- Of the operations open to C, as functions from what they are lent to what they return and leave: reading an image, and what the others
 -- leave. Those over a query are in QueryListing.
-use Rattle.std.specs.Prelude.{List, Bool, ℕ}
+use Rattle.std.specs.Prelude.{List, Bool, ℕ, if◌then◌else◌}
 use Rattle.std.proofs.Math.Option.{none, some}
-use Rattle.meaning.specs.Basics.{if◌then◌else◌, Cause}
+use Rattle.meaning.specs.Basics.{Cause}
 use Rattle.meaning.specs.Image.{image_fault}
 use Rattle.meaning.specs.Report.{over, report_bytes, wide_enough_lem, cause_bytes, bit, cleared}
 

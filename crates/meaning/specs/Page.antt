@@ -1,7 +1,7 @@
 -- 01, 'Fill a page', with the sitting of 02, Q-3: what a call does, given the answers after its bookmark.
-use Rattle.std.specs.Prelude.{List, [], ◌++◌, ◌∷◌, Bool, ◌&&◌, false, true, ◌-◌, ℕ, leb, ltb, drop, length}
+use Rattle.std.specs.Prelude.{List, [], ◌++◌, ◌∷◌, Bool, ◌&&◌, false, true, ◌-◌, ℕ, leb, ltb, drop, length, if◌then◌else◌}
 use Rattle.std.proofs.Math.Option.{none, some}
-use Rattle.meaning.specs.Basics.{Cause, first_of, if◌then◌else◌, keep, rowless}
+use Rattle.meaning.specs.Basics.{Cause, first_of, keep, rowless}
 use Rattle.meaning.specs.Listing.{before}
 use Rattle.meaning.specs.Record.{Record}
 use Rattle.meaning.specs.Report.{bit, cause_bytes, cleared, over, report_bytes, wide_enough_lem}

@@ -1,7 +1,7 @@
 -- 02, Q-1, 'It is lent as words': the parts of a query's words, refusals 31, 32 and 33 beside those of the parts, the query of accepted words, its types in words.
-use Rattle.std.specs.Prelude.{List, [], ◌∷◌, Bool, true, false, not, ◌&&◌, ◌||◌, ℕ, zero, suc, ◌+◌, ◌*◌, eqb, leb, length, get_or, take, drop}
+use Rattle.std.specs.Prelude.{List, [], ◌∷◌, Bool, true, false, not, ◌&&◌, ◌||◌, ℕ, zero, suc, ◌+◌, ◌*◌, eqb, leb, length, get_or, take, drop, if◌then◌else◌}
 use Rattle.std.proofs.Math.Option.{none}
-use Rattle.meaning.specs.Basics.{if◌then◌else◌, each, Cause, first_of, rowless}
+use Rattle.meaning.specs.Basics.{each, Cause, first_of, rowless}
 use Rattle.meaning.specs.Pattern.{node}
 use Rattle.meaning.specs.Answer.{restrictor_of}
 use Rattle.meaning.specs.Table.{any_of, is_clash_lem, pattern_fault, pattern_of, found_words, padded}

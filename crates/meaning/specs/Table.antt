@@ -1,7 +1,7 @@
 -- 01, 'The pattern table' and 'Check a pattern': rows, refusals 11 to 16, the pattern of an accepted table, its types in words.
-use Rattle.std.specs.Prelude.{List, [], ◌∷◌, ◌++◌, Bool, true, false, not, ◌&&◌, ◌||◌, ℕ, zero, suc, ◌-◌, ◌%◌, eqb, ltb, leb, length, get_or, take}
+use Rattle.std.specs.Prelude.{List, [], ◌∷◌, ◌++◌, Bool, true, false, not, ◌&&◌, ◌||◌, ℕ, zero, suc, ◌-◌, ◌%◌, eqb, ltb, leb, length, get_or, take, if◌then◌else◌}
 use Rattle.std.proofs.Math.Option.{Option, none, some}
-use Rattle.meaning.specs.Basics.{if◌then◌else◌, each, eight, lowest, Cause, first_of, rowless, at_row}
+use Rattle.meaning.specs.Basics.{each, eight, lowest, Cause, first_of, rowless, at_row}
 use Rattle.meaning.specs.Graph.{Direction, forward, backward, undirected}
 use Rattle.meaning.specs.Pattern.{Condition, equals_constant, equals_property, and, or, neg, Pattern, node, edge, union, concatenation, conditioned, repetition, edgeless, nesting}
 use Rattle.meaning.specs.Typing.{Ty, Node, Edge, Maybe, Group, Found, absent, clash, typed, type_of}

@@ -10,7 +10,8 @@ use Rattle.meaning.proofs.OnePart.{one_part}
 use Rattle.meaning.proofs.Pages.{outcome_begins, printed_records}
 use Rattle.meaning.proofs.QueryGranted.{query_full_not_empty, query_full_readable, query_full_sorted, query_no_longer}
 use Rattle.meaning.proofs.QueryReading.{ReadBy, records_by}
-use Rattle.meaning.specs.Basics.{All, each, first_of, if◌then◌else◌, rowless}
+use Rattle.std.specs.Prelude.{if◌then◌else◌}
+use Rattle.meaning.specs.Basics.{All, each, first_of, rowless}
 use Rattle.meaning.specs.FullListing.{full_listing}
 use Rattle.meaning.specs.Listing.{Before, Sorted}
 use Rattle.meaning.specs.Machine.{last_or}

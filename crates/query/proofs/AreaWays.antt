@@ -15,7 +15,8 @@ use Rattle.joins.specs.Projected.{found_in}
 use Rattle.meaning.proofs.Lists.{each_append, up_end}
 use Rattle.meaning.proofs.Logic.{no_true}
 use Rattle.meaning.proofs.TypeWords.{length_padded}
-use Rattle.meaning.specs.Basics.{if◌then◌else◌, Cause, each, up_from}
+use Rattle.std.specs.Prelude.{if◌then◌else◌}
+use Rattle.meaning.specs.Basics.{Cause, each, up_from}
 use Rattle.meaning.specs.Query.{query_type_of}
 use Rattle.meaning.specs.QueryListing.{query_in, types_or_zeros}
 use Rattle.meaning.specs.QueryRecord.{twelve}

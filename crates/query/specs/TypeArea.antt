@@ -1,7 +1,6 @@
 -- What is written over a lent area of types.
-use Rattle.std.specs.Prelude.{◌≡◌, List, ℕ, ltb, length}
+use Rattle.std.specs.Prelude.{◌≡◌, List, ℕ, ltb, length, if◌then◌else◌}
 use Rattle.std.proofs.Math.Option.{some}
-use Rattle.meaning.specs.Basics.{if◌then◌else◌}
 use Rattle.meaning.specs.Query.{query_type_of}
 use Rattle.meaning.specs.QueryListing.{query_in, types_or_zeros}
 use Rattle.meaning.specs.QueryWords.{query_fault, query_found_words}

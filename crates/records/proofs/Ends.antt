@@ -12,7 +12,7 @@ use borrow.Author.Tests.{eq-eqb, ne_eqb}
 use Rattle.matcher.specs.Values.{after_entry, after_maybe, after_value, after_view, iterate, option_bind, skip}
 use Rattle.matcher.proofs.Opened.{matcher_opened}
 use Rattle.matcher.proofs.Places.{view_far, view_at}
-use Rattle.meaning.specs.Basics.{if◌then◌else◌}
+use Rattle.std.specs.Prelude.{if◌then◌else◌}
 use Rattle.meaning.specs.Typing.{Edge, Found, Group, Maybe, Node, Ty, absent, clash, typed}
 use Rattle.typecode.specs.Codes.{code_of, ty_code}
 use Rattle.records.specs.Ends.{EndsAt, EndsGroup}

@@ -13,7 +13,8 @@ use Rattle.matcher.specs.Records.{after_slot, after_slots, slot_view, views}
 use Rattle.matcher.specs.Values.{after_found, after_view}
 use Rattle.matcher.proofs.Places.{view_far, view_at}
 use Rattle.meaning.proofs.Eight.{from, from_end, from_next, from_one}
-use Rattle.meaning.specs.Basics.{eight, if◌then◌else◌}
+use Rattle.std.specs.Prelude.{if◌then◌else◌}
+use Rattle.meaning.specs.Basics.{eight}
 use Rattle.meaning.specs.Typing.{Found, absent, clash, typed}
 use Rattle.typecode.specs.Codes.{code_of}
 use Rattle.records.specs.Ends.{EndsAt, TypesAre}

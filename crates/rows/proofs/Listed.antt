@@ -7,7 +7,7 @@ use native.Mathlib.Omega.{arith}
 use lib.Dec.{eqb, ltb, leb}
 use lib.ListN.{get_or}
 use borrow.Author.Tests.{leb-true, ne_eqb}
-use Rattle.meaning.specs.Basics.{if◌then◌else◌}
+use Rattle.std.specs.Prelude.{if◌then◌else◌}
 use Rattle.meaning.specs.Table.{Form, form, fine, if_zero, is_bad, pattern_form, condition_form, pattern_row_lem, condition_row, is_variable_lem, names_of}
 use Rattle.meaning.specs.Table.{Row as RowOf}
 use Rattle.rows.specs.Rows.{pattern_kind_lem, condition_kind_lem}

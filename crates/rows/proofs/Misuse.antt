@@ -6,7 +6,7 @@ use Prim.Native.Nat.{ℕ, ◌<◌, ◌≤◌}
 use native.Mathlib.Omega.{arith}
 use lib.Dec.{eqb, ltb, leb}
 use borrow.Author.Tests.{le-leb, lt-leb, lt-ltb, le-ltb, eq-eqb, ne_eqb, ltb-true, ltb-false}
-use Rattle.meaning.specs.Basics.{if◌then◌else◌}
+use Rattle.std.specs.Prelude.{if◌then◌else◌}
 use Rattle.meaning.specs.Table.{rows_of, form, form_at, fine, pattern_form, condition_form, pattern_row_lem, condition_row, is_variable_lem, fault12}
 use Rattle.meaning.specs.Table.{Row as RowOf}
 use Rattle.meaning.proofs.Logic.{not_false}

@@ -9,7 +9,8 @@ use lib.Dec.{eqb, ltb}
 use lib.ListN.{length, drop}
 use lib.Seq.{drop-cons}
 use borrow.Author.Tests.{eq-eqb, ne_eqb, lt-ltb, le-ltb, eqb-true, eqb-false}
-use Rattle.meaning.specs.Basics.{if◌then◌else◌, each, All}
+use Rattle.std.specs.Prelude.{if◌then◌else◌}
+use Rattle.meaning.specs.Basics.{each, All}
 use Rattle.meaning.specs.Table.{Form, is_node_lem, is_edge, is_union, is_concatenation, is_conditioned, is_repetition, is_constant, is_property, is_and, is_or, is_not, is_bad}
 use Rattle.meaning.specs.Table.{rows_of, no_row, form, form_at, fine, names_of, times, condition_form, pattern_row_lem, condition_row, fault13}
 use Rattle.meaning.proofs.Logic.{and_l, and_r, no_false}

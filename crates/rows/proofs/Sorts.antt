@@ -5,7 +5,7 @@ use Prim.Native.Nat.{ℕ, ◌<◌, ◌≤◌}
 use native.Mathlib.Omega.{arith}
 use lib.Dec.{leb}
 use borrow.Author.Tests.{le-leb, lt-leb, leb-true}
-use Rattle.meaning.specs.Basics.{if◌then◌else◌}
+use Rattle.std.specs.Prelude.{if◌then◌else◌}
 use Rattle.meaning.proofs.Logic.{no_false}
 use Rattle.rows.specs.Rows.{pattern_kind_lem, condition_kind_lem, sort_of_lem}
 use Rattle.rows.specs.declared.row.Sort.{Sort}

@@ -1,6 +1,5 @@
 -- A row as the code reads it, and the sort of a kind.
-use Rattle.std.specs.Prelude.{◌≡◌, List, Bool, ◌&&◌, ℕ, ◌<◌, leb, get_or}
-use Rattle.meaning.specs.Basics.{if◌then◌else◌}
+use Rattle.std.specs.Prelude.{◌≡◌, List, Bool, ◌&&◌, ℕ, ◌<◌, leb, get_or, if◌then◌else◌}
 use Rattle.meaning.specs.Table.{rows_of, no_row}
 use Rattle.meaning.specs.Table.{Row as RowOf}
 use Rattle.rows.specs.declared.row.Row.{Row}

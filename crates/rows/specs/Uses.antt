@@ -1,7 +1,6 @@
 -- How each of p, q, r, s of a kind is used: 0 not listed, 1 a variable or 0, 2 any number, 3 a lower pattern row, 4 a lower condition row,
 -- 5 a variable, 6 a least count, 7 of a kind that is not listed.
-use Rattle.std.specs.Prelude.{◌≡◌, List, [], ◌∷◌, Bool, true, false, not, ℕ, ◌<◌, eqb, leb, get_or}
-use Rattle.meaning.specs.Basics.{if◌then◌else◌}
+use Rattle.std.specs.Prelude.{◌≡◌, List, [], ◌∷◌, Bool, true, false, not, ℕ, ◌<◌, eqb, leb, get_or, if◌then◌else◌}
 use Rattle.meaning.specs.Table.{Row, pattern_row_lem, condition_row, is_variable_lem, fault12}
 
 unfoldable pub uses_of : ℕ → List ℕ

@@ -7,7 +7,8 @@ use native.Mathlib.Omega.{arith}
 use lib.Dec.{eqb, leb}
 use lib.ListN.{length}
 use borrow.Author.Tests.{le-leb, lt-leb, eqb-true, eqb-false}
-use Rattle.meaning.specs.Basics.{if◌then◌else◌, max}
+use Rattle.std.specs.Prelude.{if◌then◌else◌}
+use Rattle.meaning.specs.Basics.{max}
 use Rattle.meaning.specs.Pattern.{Pattern, edgeless, nesting}
 use Rattle.meaning.specs.Table.{pattern_item, rows_of, item_at, as_pattern, on_pattern, repeats, two_deep, fault14, fault15}
 use Rattle.rows.specs.Rows.{Reads}
