@@ -182,8 +182,8 @@ static void check_over(const struct subject *s, struct bytes *b)
     check_shape(number);
 }
 
-/* A query that is written otherwise, part by part: by De Morgan's laws, with the two sides exchanged and each condition negated twice; or
- * with a key that no element has in each equality, so that each condition is unknown; or so, and negated. */
+/* A query that is written otherwise, part by part: by De Morgan's laws, with each condition negated twice; or with a key that no element
+ * has in each equality, so that each condition is unknown; or so, and negated. */
 struct writing {
     enum { OTHERWISE, UNDECIDED, UNDECIDED_NEGATED } way;
     unsigned key;
@@ -203,7 +203,7 @@ static unsigned write_row(struct writing *w, const uint16_t *row)
     if (connective && w->way == OTHERWISE) {
         p = put_not(&w->out, w->part, p);
         q = put_not(&w->out, w->part, q);
-        return put_not(&w->out, w->part, put_row(&w->out, w->part, GPC_KIND_AND + GPC_KIND_OR - kind, q, p, 0, 0));
+        return put_not(&w->out, w->part, put_row(&w->out, w->part, GPC_KIND_AND + GPC_KIND_OR - kind, p, q, 0, 0));
     }
     for (int times = w->way == OTHERWISE ? 2 : w->way == UNDECIDED ? 0 : 1; kind == GPC_KIND_CONDITIONED && times > 0; times--)
         q = put_not(&w->out, w->part, q);
