@@ -1,9 +1,13 @@
 -- The words of a query of one part, written into words that are lent. Assumes nothing.
-use Rattle.std.proofs.Common.{◌≡◌, ℕ, ◌+◌, List, [], ◌∷◌, ◌++◌, length, take, drop, ap, ◌∙◌, arith, length-append}
-use Rattle.io.proofs.Counting.{prefix_len_of_le}
+use Rattle.std.proofs.Common.{◌≡◌, ℕ, ◌+◌, ◌≤◌, List, [], ◌∷◌, ◌++◌, length, take, drop, ap, sym, ◌∙◌, arith, length-append}
+use Rattle.std.proofs.lemmas.List.{length-take-le}
 use Rattle.meaning.proofs.Lists.{take_front}
 use Rattle.meaning.specs.QueryWords.{alone}
+use Rattle.printing.specs.Counts.{IsPrefixLen}
 use Rattle.printing.specs.Run.{Asks, OnePart}
+
+prefix_len_of_le : (n : ℕ) (xs : List ℕ) → n ≤ length xs → IsPrefixLen n xs
+prefix_len_of_le n xs h = (h, sym (length-take-le n xs h))
 
 -- its head, then the pattern behind it
 pub asks : (d m w pattern : List ℕ) (n : ℕ) → m ≡ take 0 d ++ (1 ∷ n ∷ 0 ∷ length pattern ∷ []) ++ drop 4 d → w ≡ take 4 m ++ pattern ++ drop (4 + length pattern) m → Asks w (4 + length pattern) n pattern

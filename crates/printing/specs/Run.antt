@@ -1,7 +1,7 @@
 -- The calls that the program makes are a host's run, and the pages of the run hold the full listing.
 use Rattle.std.specs.Prelude.{◌≡◌, ℕ, ◌%◌, ◌^◌, ◌≤◌, List, [], ◌∷◌, ◌++◌, length, take, replicate}
 use Rattle.std.proofs.Math.Option.{none}
-use Rattle.io.specs.Counts.{IsPrefixLen}
+use Rattle.printing.specs.Counts.{IsPrefixLen}
 use Rattle.meaning.specs.Basics.{All, each}
 use Rattle.meaning.specs.FullListing.{full_listing}
 use Rattle.meaning.specs.Page.{Left, Lent, is_empty, join}
@@ -91,6 +91,11 @@ pub record Shown (image query page report : List ℕ) (count : ℕ) : Type 0 whe
   pub unused : List ℕ
   pub report_is : report ≡ report_bytes 0 0 (length here) (length (join here)) (bit (is_empty rest)) 0 ++ unused
   pub count_is : count ≡ length (before ++ here) % 2 ^ 64
+
+-- the same, whatever the count
+pub record SoFar (image query page report : List ℕ) : Type 0 where
+  pub count : ℕ
+  pub shown : Shown image query page report count
 
 -- in the end: the pages of a host's run hold the full listing, and the last of them, which is this one, is marked done. Of one part
 -- without a name that is the full listing of its pattern, record for record

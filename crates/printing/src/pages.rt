@@ -1,9 +1,9 @@
 // A whole listing: a page is filled, printed, and the next one filled after its last record.
-ghost use Rattle.std.specs.Prelude.{◌≡◌, ℕ, ◌≤◌, length, IfOk, OnErr};
+ghost use Rattle.std.specs.Prelude.{◌≡◌, ◌≤◌, length, IfOk, OnErr};
 ghost use Rattle.std.proofs.Math.Option.{none};
 ghost use Rattle.meaning.specs.QueryWords.{query_fault};
 ghost use Rattle.meaning.specs.Report.{reported};
-ghost use Rattle.printing.specs.Run.{Filled, First, Followed, OnePart, Shown, TypesOf, Whole};
+ghost use Rattle.printing.specs.Run.{Filled, First, Followed, OnePart, SoFar, TypesOf, Whole};
 
 use crate::bookmark::take_mark;
 use crate::lines::{put_done, put_page, put_refusal};
@@ -78,7 +78,7 @@ fn print_pages(
 ) -> io::Result<u64>
     requires { TypesOf query.now types.now × First image.now query.now page.old report.old }
     ensures ok { IfOk result (λ count. Whole image.now query.now page.new report.new count) }
-    ensures err { OnErr result ((count : ℕ) × Shown image.now query.now page.new report.new count) }
+    ensures err { OnErr result (SoFar image.now query.now page.new report.new) }
 {
     print_page(rt, out, types, page, report)?;
     let mut count = number_of(report, 2);

@@ -1,5 +1,5 @@
 -- `examples::graphs::only_nodes` meets its contract. Assumes nothing.
-use Prim.Native.Nat.{◌≤◌, ◌-◌}
+use Rattle.std.proofs.Common.{◌≤◌, ◌-◌}
 use Rattle.examples.proofs.graphs.only_nodes.Given as goal
 
 abbrev pub invariant-loop-i : goal.invariant-loop-i

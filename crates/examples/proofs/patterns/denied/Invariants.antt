@@ -1,5 +1,5 @@
 -- `examples::patterns::denied` meets its contract. Assumes nothing.
-use Prim.Native.Nat.{◌≤◌, ◌-◌, ◌+◌}
+use Rattle.std.proofs.Common.{◌≤◌, ◌-◌, ◌+◌}
 use Rattle.examples.proofs.patterns.denied.Given as goal
 
 abbrev pub invariant-loop-row : goal.invariant-loop-row

@@ -1,7 +1,5 @@
 -- `listing::input::take_words` meets its contract. Assumes nothing.
-use Prim.Native.Nat.{◌≤◌, ◌-◌}
-use lib.ListN.{length}
-use mathlib.Core.Path.{◌≡◌}
+use Rattle.std.proofs.Common.{◌≡◌, ◌-◌, ◌≤◌, length}
 use Rattle.listing.proofs.input.take_words.Given as goal
 
 abbrev pub invariant-loop-i : goal.invariant-loop-i

@@ -1,7 +1,0 @@
--- `listing::input::read_image` meets its contract. Assumes nothing.
-use native.Mathlib.Omega.{arith}
-use Rattle.io.proofs.Counting.{prefix_len_of_le}
-use Rattle.listing.proofs.input.read_image.Goals as goal
-
-pub returns : goal.returns
-returns c = search (prefix_len_of_le, arith)
