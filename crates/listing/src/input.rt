@@ -1,37 +1,49 @@
 // Standard input: image length in bytes, pattern length in words, restrictor, then image and pattern. Input that ends early
 // counts as far as it goes: bytes of the head that are missing are 0, and half a word at the end is dropped. Input that cannot be
 // read is an error, the one that the read gave.
-ghost use Rattle.std.specs.Prelude.{◌≤◌, length, IfOk};
+ghost use Rattle.std.specs.Prelude.{◌≡◌, ℕ, ◌*◌, ◌<◌, ◌≤◌, min, length, take, slice_index, IfOk};
 ghost use Rattle.std.specs.Io.{ReadsAtMost};
+ghost use Rattle.std.specs.Io.KnownBytes.{Consumes, IsAtEnd};
+ghost use Rattle.meaning.specs.Image.{number};
+ghost use Rattle.listing.specs.Words.{WordsRead};
 
 use std::io;
 use std::io::Read;
 
 // The lesser of two.
 fn least(a: usize, b: usize) -> usize
-    ensures { (result ≤ a) × (result ≤ b) }
+    ensures bound { (result ≤ a) × (result ≤ b) }
+    ensures value { result ≡ min a b }
 {
     if a < b { a } else { b }
 }
 
-// Reads until the bytes are full or the input ends, and gives how many there were.
-pub fn read_full(input: &mut impl Read, bytes: &mut [u8]) -> io::Result<usize>
-    ensures { ReadsAtMost result bytes.new }
+// Reads until the bytes are full or the input ends, and gives how many there were. Of a reader whose bytes are known they are the
+// next ones, and where they are fewer than there is room for, the last.
+pub fn read_full<R: Read>(input: &mut R, bytes: &mut [u8]) -> io::Result<usize>
+    ensures within { ReadsAtMost result bytes.new }
+    ensures next { IfOk result (λ n. Consumes (R.remaining input.old) (R.remaining input.new)
+        (take n bytes.new)) }
+    ensures end { IfOk result (λ n. n < length bytes.new → IsAtEnd (R.remaining input.new)) }
 {
     let mut done: usize = 0;
     while done < bytes.len() {
         let count = input.read(&mut bytes[done..])?;
         if count == 0 {
-            break;
+            return Ok(done);
         }
         done += count;
     }
     Ok(done)
 }
 
-// Reads n bytes, and gives how many there were.
-fn read(input: &mut impl Read, bytes: &mut [u8], n: usize) -> io::Result<usize>
-    ensures { IfOk result (λ count. count ≤ length bytes.new) }
+// Reads n bytes, or as many as there is room for, and gives how many there were.
+fn read<R: Read>(input: &mut R, bytes: &mut [u8], n: usize) -> io::Result<usize>
+    ensures within { IfOk result (λ count. count ≤ min n (length bytes.new)) }
+    ensures next { IfOk result (λ count. Consumes (R.remaining input.old) (R.remaining input.new)
+        (take count bytes.new)) }
+    ensures end { IfOk result (λ count. count < min n (length bytes.new) →
+        IsAtEnd (R.remaining input.new)) }
 {
     let most = least(n, bytes.len());
     read_full(input, &mut bytes[0..most])
@@ -43,12 +55,16 @@ pub fn restrictor(head: &[u8; 6]) -> u16 {
 }
 
 // As many bytes as the head says, or as there are.
-pub fn read_image(
-    input: &mut impl Read,
+pub fn read_image<R: Read>(
+    input: &mut R,
     head: &[u8; 6],
     image: &mut [u8; 65536],
 ) -> io::Result<usize>
-    ensures { ReadsAtMost result image.new }
+    ensures within { ReadsAtMost result image.new }
+    ensures most { IfOk result (λ n. n ≤ number head.now 0) }
+    ensures next { IfOk result (λ n. Consumes (R.remaining input.old) (R.remaining input.new)
+        (take n image.new)) }
+    ensures end { IfOk result (λ n. n < number head.now 0 → IsAtEnd (R.remaining input.new)) }
 {
     read(input, image, words::size_at(head, 0))
 }
@@ -56,7 +72,8 @@ pub fn read_image(
 // The first words that the bytes hold.
 fn take_words(words: &mut [u16], bytes: &[u8], count: usize)
     requires { count ≤ length words.old }
-    ensures { count ≤ length words.new }
+    ensures within { count ≤ length words.new }
+    ensures each { (i : ℕ) → i < count → slice_index words.new i ≡ number bytes.now (2 * i) }
 {
     let mut i: usize = 0;
     while i < count {
@@ -66,13 +83,15 @@ fn take_words(words: &mut [u16], bytes: &[u8], count: usize)
 }
 
 // Of a pattern over 321 words the first 321 are used, which is one word more than any table has.
-pub fn read_pattern(
-    input: &mut impl Read,
+pub fn read_pattern<R: Read>(
+    input: &mut R,
     head: &[u8; 6],
     pattern: &mut [u16; 321],
 ) -> io::Result<usize>
-    ensures prefix { ReadsAtMost result pattern.new }
-    ensures most { IfOk result (λ count. count ≤ 321) }
+    ensures within { ReadsAtMost result pattern.new }
+    ensures most { IfOk result (λ n. n ≤ min (number head.now 2) 321) }
+    ensures next { IfOk result (WordsRead (R.remaining input.old) (R.remaining input.new) pattern.new
+        (min (number head.now 2) 321)) }
 {
     let mut bytes = [0u8; 642];
     let most = least(words::size_at(head, 2), 321);
