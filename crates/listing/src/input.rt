@@ -1,7 +1,7 @@
 // Standard input: image length in bytes, pattern length in words, restrictor, then image and pattern. Input that ends early
 // counts as far as it goes: bytes of the head that are missing are 0, and half a word at the end is dropped. Input that cannot be
 // read is an error, the one that the read gave.
-ghost use Rattle.std.specs.Prelude.{◌≡◌, ℕ, ◌*◌, ◌<◌, ◌≤◌, min, length, take, slice_index, IfOk};
+ghost use Rattle.std.specs.Prelude.{◌≡◌, ℕ, ◌*◌, ◌<◌, ◌≤◌, min, length, take, slice_index, IfOk, OnErr};
 ghost use Rattle.std.specs.Io.{ReadsAtMost};
 ghost use Rattle.std.specs.Io.KnownBytes.{Consumes, IsAtEnd};
 ghost use Rattle.meaning.specs.Image.{number};
@@ -25,6 +25,7 @@ pub fn read_full<R: Read>(input: &mut R, bytes: &mut [u8]) -> io::Result<usize>
     ensures next { IfOk result (λ n. Consumes (R.remaining input.old) (R.remaining input.new)
         (take n bytes.new)) }
     ensures end { IfOk result (λ n. n < length bytes.new → IsAtEnd (R.remaining input.new)) }
+    ensures err { OnErr result (length bytes.new ≡ length bytes.old) }
 {
     let mut done: usize = 0;
     while done < bytes.len() {
@@ -44,6 +45,7 @@ fn read<R: Read>(input: &mut R, bytes: &mut [u8], n: usize) -> io::Result<usize>
         (take count bytes.new)) }
     ensures end { IfOk result (λ count. count < min n (length bytes.new) →
         IsAtEnd (R.remaining input.new)) }
+    ensures err { OnErr result (length bytes.new ≡ length bytes.old) }
 {
     let most = least(n, bytes.len());
     read_full(input, &mut bytes[0..most])
@@ -65,6 +67,7 @@ pub fn read_image<R: Read>(
     ensures next { IfOk result (λ n. Consumes (R.remaining input.old) (R.remaining input.new)
         (take n image.new)) }
     ensures end { IfOk result (λ n. n < number head.now 0 → IsAtEnd (R.remaining input.new)) }
+    ensures err { OnErr result (length image.new ≡ length image.old) }
 {
     read(input, image, words::size_at(head, 0))
 }
@@ -92,6 +95,7 @@ pub fn read_pattern<R: Read>(
     ensures most { IfOk result (λ n. n ≤ min (number head.now 2) 321) }
     ensures next { IfOk result (WordsRead (R.remaining input.old) (R.remaining input.new) pattern.new
         (min (number head.now 2) 321)) }
+    ensures err { OnErr result (pattern.new ≡ pattern.old) }
 {
     let mut bytes = [0u8; 642];
     let most = least(words::size_at(head, 2), 321);
