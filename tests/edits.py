@@ -1,8 +1,7 @@
 """Every must-fail edit is named in docs/EDITS.md, and every edit that a document names is there.
 
 An edit is named as `CRATE/NAME` in backticks. Beside that: what an edit replaces stands once in its file, and what it puts there uses
-only words that the file has elsewhere, so that the prover refuses the mistake and not a name that is unknown. While PORTING-LEFT.md stands at
-the top, crates that a document speaks of may be missing.
+only words that the file has elsewhere, so that the prover refuses the mistake and not a name that is unknown.
 """
 
 import glob
@@ -11,7 +10,6 @@ import re
 import sys
 
 ROOT = os.path.dirname(os.path.dirname(os.path.abspath(__file__)))
-LEFT = os.path.exists(os.path.join(ROOT, "PORTING-LEFT.md"))
 WORD = re.compile(r"[^\W\d][\w′₀-₉-]*")
 
 
@@ -45,9 +43,6 @@ def slips(name, path):
 
 def unknown():
     """What docs/EDITS.md says refuses an edit and is not in the crates."""
-    if LEFT:
-        print("left: names in docs/EDITS.md (PORTING-LEFT.md)")
-        return
     places = ("src/**/*.rt", "specs/**/*.antt", "proofs/**/*.antt")
     sources = [path for place in places for path in glob.glob(os.path.join(ROOT, "crates/*", place), recursive=True)]
     known = set(WORD.findall("\n".join(open(path).read() for path in sources)))
