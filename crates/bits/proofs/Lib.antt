@@ -8,3 +8,4 @@ pub mod Empty
 pub mod Masks
 pub mod Laws
 pub mod SetWords
+pub mod Walks

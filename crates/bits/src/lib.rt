@@ -2,11 +2,13 @@
 // result has, as a function of the sets of its arguments.
 #![tactic(auto)]
 
+mod members;
 mod stored;
 
 ghost use Rattle.std.specs.Prelude.{◌≡◌, cond, ◌-◌};
 ghost use Rattle.bits.specs.Sets.{bit, set_of, none, only, below, unite, meet, minus, up, insert, remove, Least, Empty};
 
+pub use members::Members;
 pub use stored::{put_set, set_at};
 
 // 01: used nodes and edges as masks over u64 words. Number k is bit k % 64 of word k / 64.
@@ -158,6 +160,13 @@ impl Set {
             k = (i + 1) * 64;
         }
         Set::END
+    }
+
+    // The members in turn, rising.
+    pub fn iter(self) -> Members
+        ensures { (result.set.w ≡ self.w) × (result.from ≡ 0) }
+    {
+        Members { set: self, from: 0 }
     }
 }
 
