@@ -9,7 +9,7 @@ use mir.Syntax.{w64}
 use mir.Val.{Fits}
 use lib.ListN.{get_or}
 use borrow.Author.Tests.{lt-ltb, le-ltb}
-use Rattle.bits.specs.Sets.{bit, member, set_of, none, unite, meet, minus}
+use Rattle.bits.specs.Sets.{ByWords, bit, member, set_of, none, unite, meet, minus}
 use Rattle.bits.proofs.Cases.{by_ltb}
 use Rattle.bits.proofs.Bits.{bit_or_law, bit_and_law, bit_not, bit_zero}
 
@@ -56,26 +56,24 @@ words x = x 0 ∷ x 1 ∷ x 2 ∷ x 3 ∷ []
 pub word : (x : ℕ → ℕ) (i : ℕ) → i < 4 → get_or (words x) i 0 ≡ x i
 word x i h = each_word (λ n. get_or (words x) n 0 ≡ x n) refl refl refl refl i h
 
--- an operation on two words that is one on their bits is one on the sets
-module _ (f : ℕ → ℕ → ℕ) (g : Bool → Bool → Bool) (z : g false false ≡ false) (a b : List ℕ) where
+-- words made by an operation on two words that is one on their bits: it is one on the sets
+module _ (f : ℕ → ℕ → ℕ) (g : Bool → Bool → Bool) (z : g false false ≡ false) (a b r : List ℕ) (R : ℕ → ℕ → ℕ → Type 0) (o : (x y s : ℕ) → R x y s → s ≡ f x y) (w : ByWords R a b r) where
   both_by : ((i t : ℕ) → i < 4 → t < 64 → bit (f (get_or a i 0) (get_or b i 0)) t ≡ g (bit (get_or a i 0) t) (bit (get_or b i 0) t))
-      → set_of (words (λ i. f (get_or a i 0) (get_or b i 0))) ≡ (λ j. g (set_of a j) (set_of b j))
-  both_by e =
-      set_by (words (λ i. f (get_or a i 0) (get_or b i 0))) (λ j. g (set_of a j) (set_of b j))
-      (λ i t h l. rw (word (λ i. f (get_or a i 0) (get_or b i 0)) i h, set_at a i t h l, set_at b i t h l) (e i t h l))
+      → set_of r ≡ (λ j. g (set_of a j) (set_of b j))
+  both_by e = set_by r (λ j. g (set_of a j) (set_of b j))
+      (λ i t h l. rw (o (get_or a i 0) (get_or b i 0) (get_or r i 0) (w.at i h), set_at a i t h l, set_at b i t h l) (e i t h l))
       (λ j h. rw (set_out a j h, set_out b j h) z)
 
-module _ (a b : List ℕ) where
-  pub union_words : set_of (words (λ i. bit_or (get_or a i 0) (get_or b i 0))) ≡ unite (set_of a) (set_of b)
-  union_words = both_by bit_or ◌||◌ refl a b (λ i t h l. bit_or_law (get_or a i 0) (get_or b i 0) t)
+module _ {a b r : List ℕ} {R : ℕ → ℕ → ℕ → Type 0} (w : ByWords R a b r) where
+  pub union_words : ((x y s : ℕ) → R x y s → s ≡ bit_or x y) → set_of r ≡ unite (set_of a) (set_of b)
+  union_words o = both_by bit_or ◌||◌ refl a b r R o w (λ i t h l. bit_or_law (get_or a i 0) (get_or b i 0) t)
 
-  pub meet_words : set_of (words (λ i. bit_and (get_or a i 0) (get_or b i 0))) ≡ meet (set_of a) (set_of b)
-  meet_words = both_by bit_and ◌&&◌ refl a b (λ i t h l. bit_and_law (get_or a i 0) (get_or b i 0) t)
+  pub meet_words : ((x y s : ℕ) → R x y s → s ≡ bit_and x y) → set_of r ≡ meet (set_of a) (set_of b)
+  meet_words o = both_by bit_and ◌&&◌ refl a b r R o w (λ i t h l. bit_and_law (get_or a i 0) (get_or b i 0) t)
 
-  pub minus_words : ((i : ℕ) → Fits w64 (get_or b i 0))
-      → set_of (words (λ i. bit_and (get_or a i 0) (2 ^ 64 - 1 - get_or b i 0))) ≡ minus (set_of a) (set_of b)
-  minus_words f =
-      both_by (λ x y. bit_and x (2 ^ 64 - 1 - y)) (λ s t. s && not t) refl a b
+  pub minus_words : ((i : ℕ) → Fits w64 (get_or b i 0)) → ((x y s : ℕ) → R x y s → s ≡ bit_and x (2 ^ 64 - 1 - y)) → set_of r ≡ minus (set_of a) (set_of b)
+  minus_words f o =
+      both_by (λ x y. bit_and x (2 ^ 64 - 1 - y)) (λ s t. s && not t) refl a b r R o w
       (λ i t h l.
       bit_and_law (get_or a i 0) (2 ^ 64 - 1 - get_or b i 0) t
       ∙ ap (λ (s : Bool). bit (get_or a i 0) t && s) (bit_not 64 t (get_or b i 0) l (f i).fits))

@@ -63,3 +63,7 @@ pub record Least (S : ℕ → Bool) (end from r : ℕ) : Type 0 where
 pub record Empty (S : ℕ → Bool) (r : Bool) : Type 0 where
   pub yes : r ≡ true → S ≡ none
   pub no : r ≡ false → (j : ℕ) × (S j ≡ true)
+
+-- R holds of the words of a, b and r at each place
+pub record ByWords (R : ℕ → ℕ → ℕ → Type 0) (a b r : List ℕ) : Type 0 where
+  pub at : (i : ℕ) → i < 4 → R (get_or a i 0) (get_or b i 0) (get_or r i 0)

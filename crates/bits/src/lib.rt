@@ -5,8 +5,8 @@
 mod members;
 mod stored;
 
-ghost use Rattle.std.specs.Prelude.{◌≡◌, cond, ◌-◌};
-ghost use Rattle.bits.specs.Sets.{bit, set_of, none, only, below, unite, meet, minus, up, insert, remove, Least, Empty};
+ghost use Rattle.std.specs.Prelude.{◌≡◌, cond};
+ghost use Rattle.bits.specs.Sets.{bit, set_of, none, only, below, unite, meet, minus, up, insert, remove, Least, Empty, ByWords};
 
 pub use members::Members;
 pub use stored::{put_set, set_at};
@@ -51,9 +51,9 @@ impl Set {
         Set {
             w: [
                 low(n),
-                low(past(n, 64)),
-                low(past(n, 128)),
-                low(past(n, 192)),
+                low(n.saturating_sub(64)),
+                low(n.saturating_sub(128)),
+                low(n.saturating_sub(192)),
             ],
         }
     }
@@ -62,11 +62,7 @@ impl Set {
     pub fn has(self, k: usize) -> bool
         ensures { result ≡ set_of self.w k }
     {
-        if Set::END <= k {
-            return false;
-        }
-        let i = k / 64;
-        self.w[i] >> (k % 64) & 1 == 1
+        k < Set::END && self.w[k / 64] >> (k % 64) & 1 == 1
     }
 
     // The set with k, where k is below 256.
@@ -83,46 +79,40 @@ impl Set {
         self.minus(Set::single(k))
     }
 
+    // Word by word.
+    fn by_words<F: Fn(u64, u64) -> u64>(self, o: Set, f: F) -> Self
+        requires { F.IsAlwaysCallable f }
+        ensures { ByWords (F.post f) self.w o.w result.w }
+    {
+        Set {
+            w: [
+                f(self.w[0], o.w[0]),
+                f(self.w[1], o.w[1]),
+                f(self.w[2], o.w[2]),
+                f(self.w[3], o.w[3]),
+            ],
+        }
+    }
+
     // What is in one of the two.
     pub fn union(self, o: Set) -> Self
         ensures { set_of result.w ≡ unite (set_of self.w) (set_of o.w) }
     {
-        Set {
-            w: [
-                self.w[0] | o.w[0],
-                self.w[1] | o.w[1],
-                self.w[2] | o.w[2],
-                self.w[3] | o.w[3],
-            ],
-        }
+        self.by_words(o, |x, y| x | y)
     }
 
     // What is in both.
     pub fn meet(self, o: Set) -> Self
         ensures { set_of result.w ≡ meet (set_of self.w) (set_of o.w) }
     {
-        Set {
-            w: [
-                self.w[0] & o.w[0],
-                self.w[1] & o.w[1],
-                self.w[2] & o.w[2],
-                self.w[3] & o.w[3],
-            ],
-        }
+        self.by_words(o, |x, y| x & y)
     }
 
     // What is in this set and not in the other.
     pub fn minus(self, o: Set) -> Self
         ensures { set_of result.w ≡ minus (set_of self.w) (set_of o.w) }
     {
-        Set {
-            w: [
-                self.w[0] & !o.w[0],
-                self.w[1] & !o.w[1],
-                self.w[2] & !o.w[2],
-                self.w[3] & !o.w[3],
-            ],
-        }
+        self.by_words(o, |x, y| x & !y)
     }
 
     // Each member k becomes k + 1; 255 falls out.
@@ -177,41 +167,25 @@ fn part(here: bool, x: u64) -> u64
     if here { x } else { 0 }
 }
 
-// How far n is past k, or 0.
-fn past(n: usize, k: usize) -> usize
-    ensures { result ≡ n - k }
-{
-    if n < k { 0 } else { n - k }
-}
-
 // The bit k of a mask of one word.
 pub fn bit(m: u64, k: usize) -> bool
     ensures { result ≡ bit m k }
 {
-    if 64 <= k {
-        return false;
-    }
-    m >> k & 1 == 1
+    k < 64 && m >> k & 1 == 1
 }
 
 // The mask of k alone.
 pub fn one(k: usize) -> u64
     ensures { bit result ≡ only 64 k }
 {
-    if 64 <= k {
-        return 0;
-    }
-    1 << k
+    if k < 64 { 1 << k } else { 0 }
 }
 
 // The mask of the numbers below n.
 pub fn low(n: usize) -> u64
     ensures { bit result ≡ below 64 n }
 {
-    if 64 <= n {
-        return !0;
-    }
-    (1 << n) - 1
+    if n < 64 { (1 << n) - 1 } else { !0 }
 }
 
 // What is in one of two masks: the operator itself has no contract about single bits.

@@ -19,8 +19,5 @@ pub fn put_set(words: &mut [u64], k: usize, x: Set)
     ensures { Stored k x.w words.old words.new }
 {
     let i = 4 * k;
-    words[i] = x.w[0];
-    words[i + 1] = x.w[1];
-    words[i + 2] = x.w[2];
-    words[i + 3] = x.w[3];
+    words[i..i + 4].copy_from_slice(&x.w);
 }

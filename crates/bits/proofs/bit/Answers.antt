@@ -4,8 +4,8 @@ use Rattle.bits.proofs.Bits.{bit_code}
 use Rattle.bits.proofs.Masks.{bit_far}
 use Rattle.bits.proofs.bit.Goals as goal
 
-pub returns-then-k-ge64 : goal.returns-then-k-ge64
-returns-then-k-ge64 c = search (bit_far, arith)
+pub returns-else-k-lt64 : goal.returns-else-k-lt64
+returns-else-k-lt64 c = search (bit_far, arith)
 
-pub returns : goal.returns
-returns c = search (bit_code, arith)
+pub returns-then-k-lt64 : goal.returns-then-k-lt64
+returns-then-k-lt64 c = search (bit_code, arith)

@@ -3,8 +3,8 @@ use native.Mathlib.Omega.{arith}
 use Rattle.bits.proofs.Masks.{has_far, has_near}
 use Rattle.bits.proofs.Set.has.Goals as goal
 
-pub returns-then-k-ge-END : goal.returns-then-k-ge-END
-returns-then-k-ge-END c = search (has_far, arith)
+pub returns-else-k-lt-END : goal.returns-else-k-lt-END
+returns-else-k-lt-END c = search (has_far, arith)
 
-pub returns : goal.returns
-returns c = search (has_near, arith)
+pub returns-then-k-lt-END : goal.returns-then-k-lt-END
+returns-then-k-lt-END c = search (has_near, arith)
