@@ -1,7 +1,7 @@
 -- A loop over the members of a set: how it begins, goes on and ends. Assumes nothing.
 use mathlib.Core.Path.{◌≡◌, ◌∙◌}
 use mathlib.Core.List.{List}
-use Prim.Native.Nat.{ℕ, ◌+◌, ◌<◌}
+use Prim.Native.Nat.{ℕ, ◌+◌}
 use Rattle.std.specs.Prelude.{Some}
 use Rattle.bits.specs.Sets.{Least, set_of}
 use Rattle.bits.specs.Members.{NextMember, Walked}

@@ -5,7 +5,7 @@
 mod members;
 mod stored;
 
-ghost use Rattle.std.specs.Prelude.{◌≡◌, cond};
+ghost use Rattle.std.specs.Prelude.{◌≡◌};
 ghost use Rattle.bits.specs.Sets.{bit, set_of, none, only, below, unite, meet, minus, up, insert, remove, Least, Empty, ByWords};
 
 pub use members::Members;
@@ -32,16 +32,11 @@ impl Set {
     pub fn single(k: usize) -> Self
         ensures { set_of result.w ≡ only 256 k }
     {
-        let x = one(k % 64);
-        let i = k / 64;
-        Set {
-            w: [
-                part(i == 0, x),
-                part(i == 1, x),
-                part(i == 2, x),
-                part(i == 3, x),
-            ],
+        let mut w = [0; 4];
+        if k < Set::END {
+            w[k / 64] = one(k % 64);
         }
+        Set { w }
     }
 
     // All numbers below n that a set can hold.
@@ -133,6 +128,7 @@ impl Set {
     pub fn is_empty(self) -> bool
         ensures { Empty (set_of self.w) result }
     {
+        // one test in place of four: every step of a search asks it
         self.w[0] | self.w[1] | self.w[2] | self.w[3] == 0
     }
 
@@ -158,13 +154,6 @@ impl Set {
     {
         Members { set: self, from: 0 }
     }
-}
-
-// The word, or nothing.
-fn part(here: bool, x: u64) -> u64
-    ensures { result ≡ cond here x 0 }
-{
-    if here { x } else { 0 }
 }
 
 // The bit k of a mask of one word.
