@@ -1,34 +1,29 @@
 -- The report's bytes: the digits of a number, and the loop that writes eight numbers.
 use mathlib.Core.Path.{◌≡◌, refl, sym, ap, ◌∙◌}
 use mathlib.Core.List.{List, [], ◌∷◌, ◌++◌, append-nil, append_assoc}
-use Prim.Native.Nat.{ℕ, zero, suc, ◌+◌, ◌*◌, ◌/◌, ◌%◌, ◌<◌, ◌≤◌}
+use Prim.Native.Nat.{ℕ, zero, suc, ◌+◌, ◌-◌, ◌*◌, ◌/◌, ◌<◌, ◌≤◌}
 use native.Mathlib.Numerals.{add-one}
 use native.Mathlib.Omega.{arith}
-use lib.ListN.{length, take, drop, get_or, set, length-append}
+use lib.ListN.{length, take, drop, get_or, length-append}
 use lib.Seq.{take_at, drop-append-add, drop-drop, take-suc, take_all, length-take-le}
+use borrow.Rule.Slice.PartMut.{put_mid}
+use Rattle.std.specs.Int.{w64, to_le_bytes}
 use Rattle.meaning.specs.Basics.{each}
 use Rattle.meaning.specs.Report.{digits, over, report_bytes}
-use Rattle.words.proofs.Lists.{put_eight}
 
 -- ------------------------------------------------------------------ a number's eight bytes
-eight_digits : (v : ℕ) → digits 8 v
-    ≡ v % 256 ∷ v / 256 % 256 ∷ v / 65536 % 256 ∷ v / 16777216 % 256 ∷ v / 4294967296 % 256 ∷ v / 1099511627776 % 256
-    ∷ v / 281474976710656 % 256 ∷ v / 72057594037927936 % 256 ∷ []
+-- b are the eight bytes of v
+pub put_number_law : (l b : List ℕ) (k v : ℕ) → k + 8 ≤ length l → b ≡ to_le_bytes w64 v → put_mid k (k + 8 - k) l b ≡ take k l ++ digits 8 v ++ drop (k + 8) l
 unfolding digits
-eight_digits v =
-    let b : v / 256 / 256 ≡ v / 65536 = omega arith in
-    let c : v / 65536 / 256 ≡ v / 16777216 = omega arith in
-    let d : v / 16777216 / 256 ≡ v / 4294967296 = omega arith in
-    let e : v / 4294967296 / 256 ≡ v / 1099511627776 = omega arith in
-    let f : v / 1099511627776 / 256 ≡ v / 281474976710656 = omega arith in
-    let g : v / 281474976710656 / 256 ≡ v / 72057594037927936 = omega arith in
-    rw (b, c, d, e, f, g)
-
-pub put_number_law : (l : List ℕ) (k v : ℕ) → k + 8 ≤ length l
-    → set (set (set (set (set (set (set (set l k (v % 256)) (k + 1) (v / 256 % 256)) (k + 2) (v / 65536 % 256)) (k + 3) (v / 16777216 % 256))
-    (k + 4) (v / 4294967296 % 256)) (k + 5) (v / 1099511627776 % 256)) (k + 6) (v / 281474976710656 % 256)) (k + 7) (v / 72057594037927936 % 256)
-    ≡ take k l ++ digits 8 v ++ drop (k + 8) l
-put_number_law l k v h = rw (eight_digits v) (put_eight l k _ _ _ _ _ _ _ _ h)
+put_number_law l b k v h e =
+    let p : k + 8 - k ≡ 8 = omega arith in
+    let c : v / 256 / 256 ≡ v / 65536 = omega arith in
+    let d : v / 65536 / 256 ≡ v / 16777216 = omega arith in
+    let f : v / 16777216 / 256 ≡ v / 4294967296 = omega arith in
+    let g : v / 4294967296 / 256 ≡ v / 1099511627776 = omega arith in
+    let m : v / 1099511627776 / 256 ≡ v / 281474976710656 = omega arith in
+    let n : v / 281474976710656 / 256 ≡ v / 72057594037927936 = omega arith in
+    rw (append_assoc (take k l) (digits 8 v) (drop (k + 8) l), e, p, c, d, f, g, m, n, drop-drop 8 k l) refl
 
 -- ------------------------------------------------------------------ eight numbers
 length_digits : (n v : ℕ) → length (digits n v) ≡ n

@@ -6,7 +6,7 @@ ghost use Rattle.meaning.specs.Report.{cleared};
 pub fn wide(word: u16) -> usize
     ensures { (result ≡ word) × (result < 65536) }
 {
-    word as usize
+    usize::from(word)
 }
 
 // The first n words are 0, and the rest is as it was.
@@ -14,11 +14,7 @@ pub fn clear(words: &mut [u16], n: usize)
     requires { n ≤ length words.old }
     ensures { words.new ≡ cleared n words.old }
 {
-    let mut i: usize = 0;
-    while i < n {
-        words[i] = 0;
-        i += 1;
-    }
+    words[..n].fill(0);
 }
 
 // The words of from stand in to from at on, and the rest is as it was.
@@ -26,9 +22,5 @@ pub fn copy_at(to: &mut [u16], at: usize, from: &[u16])
     requires { at + length from.now ≤ length to.old }
     ensures { to.new ≡ take at to.old ++ from.now ++ drop (at + length from.now) to.old }
 {
-    let mut i: usize = 0;
-    while i < from.len() {
-        to[at + i] = from[i];
-        i += 1;
-    }
+    to[at..at + from.len()].copy_from_slice(from);
 }

@@ -7,14 +7,7 @@ ghost use Rattle.words.specs.Size.{Size};
 fn byte_at(bytes: &[u8], at: usize) -> u8
     ensures { result ≡ get_or bytes.now at 0 }
 {
-    if at < bytes.len() { bytes[at] } else { 0 }
-}
-
-// Apart from the read, as `wide` is.
-fn widened(byte: u8) -> u16
-    ensures { result ≡ byte }
-{
-    byte as u16
+    bytes.get(at).copied().unwrap_or(0)
 }
 
 // 01: two bytes, low byte first.
@@ -25,14 +18,14 @@ pub fn number_at(bytes: &[u8], at: usize) -> u16
     if bytes.len() <= at {
         return 0;
     }
-    let low = widened(byte_at(bytes, at));
-    let high = widened(byte_at(bytes, at + 1));
-    low + 256 * high
+    let low = byte_at(bytes, at);
+    let high = byte_at(bytes, at + 1);
+    u16::from_le_bytes([low, high])
 }
 
 // The number as a size, with the bound that sums of sizes need.
 pub fn size_at(bytes: &[u8], at: usize) -> usize
     ensures { Size bytes.now at result }
 {
-    number_at(bytes, at) as usize
+    usize::from(number_at(bytes, at))
 }

@@ -8,14 +8,7 @@ fn write_number(report: &mut [u8], at: usize, number: u64)
     requires { at + 8 ≤ length report.old }
     ensures { report.new ≡ take at report.old ++ digits 8 number ++ drop (at + 8) report.old }
 {
-    report[at] = (number % 256) as u8;
-    report[at + 1] = (number / 256 % 256) as u8;
-    report[at + 2] = (number / 65536 % 256) as u8;
-    report[at + 3] = (number / 16777216 % 256) as u8;
-    report[at + 4] = (number / 4294967296 % 256) as u8;
-    report[at + 5] = (number / 1099511627776 % 256) as u8;
-    report[at + 6] = (number / 281474976710656 % 256) as u8;
-    report[at + 7] = (number / 72057594037927936 % 256) as u8;
+    report[at..at + 8].copy_from_slice(&number.to_le_bytes());
 }
 
 // The eight numbers, from the first byte on.
@@ -23,10 +16,8 @@ fn write_numbers(report: &mut [u8], numbers: [u64; 8])
     requires { 64 ≤ length report.old }
     ensures { report.new ≡ each numbers (digits 8) ++ drop 64 report.old }
 {
-    let mut i: usize = 0;
-    while i < 8 {
-        write_number(report, i * 8, numbers[i]);
-        i += 1;
+    for (i, number) in numbers.iter().enumerate() {
+        write_number(report, i * 8, *number);
     }
 }
 
