@@ -1,5 +1,6 @@
 -- Whether a cause refuses, and the two numbers that a report gives of it: 0 and 0 where nothing is refused.
-use Rattle.std.specs.Prelude.{Bool, false, true, ℕ}
+use Rattle.std.specs.Prelude.{Bool, false, true, ℕ, Option, Some, None, Result, Ok, Err, ⊤}
+use Rattle.std.proofs.Math.Option as Math
 use Rattle.std.proofs.Math.Option.{none, some}
 use Rattle.meaning.specs.Basics.{Cause}
 
@@ -14,3 +15,13 @@ row_of (some c) = c.1
 abbrev pub is_refused : Cause → Bool
 is_refused none = false
 is_refused (some c) = true
+
+-- the cause that an outcome tells, where f gives the number and the row of a refusal
+abbrev pub cause_by : {E : Type 0} → (E → ℕ × ℕ) → Result ⊤ E → Cause
+cause_by f (Ok u) = none
+cause_by f (Err e) = some (f e)
+
+-- the row that was found, if one was
+abbrev pub found_row : Option ℕ → Math.Option ℕ
+found_row None = none
+found_row (Some i) = some i

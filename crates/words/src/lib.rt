@@ -4,8 +4,10 @@
 
 mod lent;
 mod little;
+mod refusal;
 mod report;
 
 pub use lent::{clear, copy_at, wide};
 pub use little::{number_at, size_at};
+pub use refusal::{Refused, report_outcome};
 pub use report::write_report;
