@@ -1,5 +1,5 @@
 -- The first cause that holds, from what the parts of the reader answered.
-use mathlib.Core.Path.{◌≡◌}
+use mathlib.Core.Path.{◌≡◌, ◌∙◌}
 use mathlib.Core.List.{List}
 use mathlib.Core.Bool.{Bool, true, false, not}
 use mathlib.Core.Option.{none, some}
@@ -9,37 +9,45 @@ use borrow.Author.Tests.{lt-ltb, le-ltb}
 use Rattle.meaning.specs.Basics.{Cause, first_of, rowless, at_row, lowest}
 use Rattle.meaning.specs.Image.{node_count, edge_count, label_count, property_count, bad_node_lem, bad_edge_lem, bad_label_lem, bad_property_lem, good_directory_lem, row_fault, image_fault}
 use Rattle.image.specs.declared.sections.Sections.{Sections}
-use Rattle.image.specs.declared.lowest.Row.{Row}
-use Rattle.image.specs.declared.lowest.Row.TheVariants.{At, Nothing}
+use Rattle.image.specs.declared.lowest.Section.{Section}
+use Rattle.image.specs.declared.reader.Refusal.{Refusal}
 use Rattle.image.specs.Sections.{Laid, crowded}
-use Rattle.image.specs.Faults.{found_row}
+use Rattle.image.specs.Faults.{row_count_lem, bad_row_lem, number_of_section}
+use Rattle.image.specs.Verdict.{cause_of, told_of}
+use Rattle.words.specs.Fault.{found_row}
+use Rattle.std.specs.Prelude.{Option, Some, None, Result, Ok, Err, ⊤}
 use Rattle.image.proofs.Listing.{crowded_is}
 
 -- ------------------------------------------------------------------ rows
--- p, q, r and t are what was found of nodes, edges, labels and properties
-module _ (image : List ℕ) (p : Row) (hp : found_row p ≡ lowest (node_count image) 0 (bad_node_lem image)) where
-  pub bad_node_row : (i : ℕ) → p ≡ At i → some (4, i) ≡ row_fault image
-  unfolding row_fault first_of at_row
-  bad_node_row i e = rw (← hp, e)
+-- o is what was found of a section
+module _ (image : List ℕ) (x : Section) (o : Option ℕ) (h : found_row o ≡ lowest (row_count_lem x image) 0 (bad_row_lem x image)) where
+  pub section_bad : (i : ℕ) → o ≡ Some i → some (number_of_section x, i) ≡ at_row (number_of_section x) (lowest (row_count_lem x image) 0 (bad_row_lem x image))
+  unfolding at_row
+  section_bad i e = rw (← h, e)
 
-  module _ (ep : p ≡ Nothing) (q : Row) (hq : found_row q ≡ lowest (edge_count image) 0 (bad_edge_lem image)) where
-    pub bad_edge_row : (i : ℕ) → q ≡ At i → some (5, i) ≡ row_fault image
-    unfolding row_fault first_of at_row
-    bad_edge_row i e = rw (← hp, ep, ← hq, e)
+  pub section_fine : o ≡ None → none ≡ at_row (number_of_section x) (lowest (row_count_lem x image) 0 (bad_row_lem x image))
+  unfolding at_row
+  section_fine e = rw (← h, e)
 
-    module _ (eq : q ≡ Nothing) (r : Row) (hr : found_row r ≡ lowest (label_count image) 0 (bad_label_lem image)) where
-      pub bad_label_row : (i : ℕ) → r ≡ At i → some (6, i) ≡ row_fault image
-      unfolding row_fault first_of at_row
-      bad_label_row i e = rw (← hp, ep, ← hq, eq, ← hr, e)
+-- p, q and r are what was found of nodes, edges and labels
+module _ (image : List ℕ) (p : Result ⊤ Refusal) (hp : cause_of p ≡ at_row 4 (lowest (node_count image) 0 (bad_node_lem image))) where
+  pub nodes_refused : (e : Refusal) → p ≡ Err e → some (told_of e) ≡ row_fault image
+  unfolding row_fault first_of
+  nodes_refused e k = rw (← hp, k)
 
-      module _ (er : r ≡ Nothing) (t : Row) (ht : found_row t ≡ lowest (property_count image) 0 (bad_property_lem image)) where
-        pub bad_property_row : (i : ℕ) → t ≡ At i → some (7, i) ≡ row_fault image
-        unfolding row_fault first_of at_row
-        bad_property_row i e = rw (← hp, ep, ← hq, eq, ← hr, er, ← ht, e)
+  module _ (kp : p ≡ Ok tt) (q : Result ⊤ Refusal) (hq : cause_of q ≡ at_row 5 (lowest (edge_count image) 0 (bad_edge_lem image))) where
+    pub edges_refused : (e : Refusal) → q ≡ Err e → some (told_of e) ≡ row_fault image
+    unfolding row_fault first_of
+    edges_refused e k = rw (← hp, kp, ← hq, k)
 
-        pub no_bad_row : t ≡ Nothing → none ≡ row_fault image
-        unfolding row_fault first_of at_row
-        no_bad_row e = rw (← hp, ep, ← hq, eq, ← hr, er, ← ht, e)
+    module _ (kq : q ≡ Ok tt) (r : Result ⊤ Refusal) (hr : cause_of r ≡ at_row 6 (lowest (label_count image) 0 (bad_label_lem image))) where
+      pub labels_refused : (e : Refusal) → r ≡ Err e → some (told_of e) ≡ row_fault image
+      unfolding row_fault first_of
+      labels_refused e k = rw (← hp, kp, ← hq, kq, ← hr, k)
+
+      pub by_properties : r ≡ Ok tt → (c : Cause) → c ≡ at_row 7 (lowest (property_count image) 0 (bad_property_lem image)) → c ≡ row_fault image
+      unfolding row_fault first_of
+      by_properties k c h = h ∙ rw (← hp, kp, ← hq, kq, ← hr, k)
 
 -- ------------------------------------------------------------------ the whole image
 module _ (image : List ℕ) where

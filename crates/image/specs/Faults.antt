@@ -1,12 +1,9 @@
--- The rows of a section and their faults, and what a search for the lowest faulty one answers.
+-- The rows of a section and their faults.
 use Rattle.std.specs.Prelude.{List, Bool, ℕ}
-use Rattle.std.proofs.Math.Option.{Option, none, some}
 use Rattle.meaning.specs.Image.{node_count, edge_count, label_count, property_count, bad_node_lem, bad_edge_lem, bad_label_lem, bad_property_lem}
 use Rattle.image.specs.declared.lowest.Section.{Section}
 use Rattle.image.specs.declared.lowest.Section.TheVariants.{Nodes, Edges, Labels, Properties}
 use Rattle.image.specs.declared.sections.Sections.{Sections}
-use Rattle.image.specs.declared.lowest.Row.{Row}
-use Rattle.image.specs.declared.lowest.Row.TheVariants.{At, Nothing}
 
 abbrev pub rows_in : Sections → Section → ℕ
 rows_in s Nodes = s.nodes.count
@@ -26,6 +23,9 @@ bad_row_lem Edges b = bad_edge_lem b
 bad_row_lem Labels b = bad_label_lem b
 bad_row_lem Properties b = bad_property_lem b
 
-abbrev pub found_row : Row → Option ℕ
-found_row (At i) = some i
-found_row Nothing = none
+-- the refusal's number of a faulty row
+abbrev pub number_of_section : Section → ℕ
+number_of_section Nodes = 4
+number_of_section Edges = 5
+number_of_section Labels = 6
+number_of_section Properties = 7

@@ -1,16 +1,17 @@
--- The number and the row of each answer of the reader.
-use Rattle.std.proofs.Math.Option.{none, some}
+-- The number and the row of each refusal of the reader, and the cause that an outcome tells.
+use Rattle.std.specs.Prelude.{ℕ, Result, ⊤}
 use Rattle.meaning.specs.Basics.{Cause}
-use Rattle.image.specs.declared.reader.Verdict.{Verdict}
-use Rattle.image.specs.declared.reader.Verdict.TheVariants.{Accepted, TooShort, BadDirectory, TooManyRows, BadNode, BadEdge, BadLabel, BadProperty}
+use Rattle.words.specs.Fault.{cause_by}
+use Rattle.image.specs.declared.reader.Refusal.{Refusal}
+use Rattle.image.specs.declared.reader.Refusal.TheVariants.{TooShort, BadDirectory, TooManyRows, BadRow}
+use Rattle.image.specs.Faults.{number_of_section}
 
 -- 01, 'Read an image'
-abbrev pub cause_of : Verdict → Cause
-cause_of Accepted = none
-cause_of TooShort = some (1, 0)
-cause_of BadDirectory = some (2, 0)
-cause_of TooManyRows = some (3, 0)
-cause_of (BadNode i) = some (4, i)
-cause_of (BadEdge i) = some (5, i)
-cause_of (BadLabel i) = some (6, i)
-cause_of (BadProperty i) = some (7, i)
+abbrev pub told_of : Refusal → ℕ × ℕ
+told_of TooShort = (1, 0)
+told_of BadDirectory = (2, 0)
+told_of TooManyRows = (3, 0)
+told_of (BadRow section i) = (number_of_section section, i)
+
+abbrev pub cause_of : Result ⊤ Refusal → Cause
+cause_of r = cause_by told_of r

@@ -9,5 +9,6 @@ mod reader;
 mod sections;
 
 pub use cells::{edge_cell, label_cell, property_cell};
-pub use reader::{Verdict, read};
+pub use lowest::Section;
+pub use reader::{Refusal, read};
 pub use sections::{Rows, Sections, sections_of};

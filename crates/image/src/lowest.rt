@@ -2,7 +2,8 @@
 ghost use Rattle.std.specs.Prelude.{◌≡◌, ◌<◌};
 ghost use Rattle.meaning.specs.Basics.{lowest};
 ghost use Rattle.image.specs.Sections.{Laid};
-ghost use Rattle.image.specs.Faults.{rows_in, row_count_lem, bad_row_lem, found_row};
+ghost use Rattle.image.specs.Faults.{rows_in, row_count_lem, bad_row_lem};
+ghost use Rattle.words.specs.Fault.{found_row};
 
 use crate::faults::{bad_edge, bad_label, bad_node, bad_property};
 use crate::sections::Sections;
@@ -14,13 +15,6 @@ pub enum Section {
     Edges,
     Labels,
     Properties,
-}
-
-// The lowest faulty row, if there is one.
-#[derive(Clone, Copy)]
-pub enum Row {
-    At(usize),
-    Nothing,
 }
 
 // The number of rows of a section.
@@ -49,19 +43,16 @@ fn bad_row(image: &[u8], s: Sections, section: Section, i: usize) -> bool
     }
 }
 
-// The lowest faulty row of a section.
-pub fn lowest_bad(image: &[u8], s: Sections, section: Section) -> Row
+// The lowest faulty row of a section, if there is one.
+pub fn lowest_bad(image: &[u8], s: Sections, section: Section) -> Option<usize>
     requires { Laid image.now s }
     ensures { found_row result ≡ lowest (row_count_lem section image.now) 0 (bad_row_lem section image.now) }
 {
     let count = row_count(s, section);
-    let mut next: usize = 0;
-    while next < count {
-        let row = next;
-        next += 1;
+    for row in 0..count {
         if bad_row(image, s, section, row) {
-            return Row::At(row);
+            return Some(row);
         }
     }
-    Row::Nothing
+    None
 }

@@ -1,110 +1,83 @@
 // Reading an image: the first cause of a refusal.
 ghost use Rattle.std.specs.Prelude.{◌≡◌};
+ghost use Rattle.meaning.specs.Basics.{at_row, lowest};
 ghost use Rattle.meaning.specs.Image.{image_fault, row_fault};
+ghost use Rattle.image.specs.Faults.{bad_row_lem, number_of_section, row_count_lem};
 ghost use Rattle.image.specs.Sections.{Laid};
-ghost use Rattle.image.specs.Verdict.{cause_of};
-ghost use Rattle.words.specs.Fault.{is_refused, number_of, row_of};
+ghost use Rattle.image.specs.Verdict.{cause_of, told_of};
 
 use crate::directory::good_directory;
-use crate::lowest::{Row, Section, lowest_bad};
+use crate::lowest::{Section, lowest_bad};
 use crate::sections::{Sections, sections_of, too_many};
+use words::Refused;
 
-// The last four name the faulty row of their section.
+// Why an image is refused; the last names the faulty row of its section.
 #[derive(Clone, Copy)]
-pub enum Verdict {
-    Accepted,
+pub enum Refusal {
     TooShort,
     BadDirectory,
     TooManyRows,
-    BadNode(usize),
-    BadEdge(usize),
-    BadLabel(usize),
-    BadProperty(usize),
+    BadRow(Section, usize),
 }
 
-impl Verdict {
-    // Whether there is a cause.
-    pub fn is_refused(self) -> bool
-        ensures { result ≡ is_refused (cause_of self) }
-    {
+impl Refused for Refusal {
+    ghost told = { told_of };
+
+    fn number(self) -> u64 {
         match self {
-            Verdict::Accepted => false,
-            Verdict::TooShort => true,
-            Verdict::BadDirectory => true,
-            Verdict::TooManyRows => true,
-            Verdict::BadNode(_) => true,
-            Verdict::BadEdge(_) => true,
-            Verdict::BadLabel(_) => true,
-            Verdict::BadProperty(_) => true,
+            Refusal::TooShort => 1,
+            Refusal::BadDirectory => 2,
+            Refusal::TooManyRows => 3,
+            Refusal::BadRow(Section::Nodes, _) => 4,
+            Refusal::BadRow(Section::Edges, _) => 5,
+            Refusal::BadRow(Section::Labels, _) => 6,
+            Refusal::BadRow(Section::Properties, _) => 7,
         }
     }
 
-    // The refusal's number, 0 where there is none.
-    pub fn number(self) -> u64
-        ensures { result ≡ number_of (cause_of self) }
-    {
+    fn row(self) -> u64 {
         match self {
-            Verdict::Accepted => 0,
-            Verdict::TooShort => 1,
-            Verdict::BadDirectory => 2,
-            Verdict::TooManyRows => 3,
-            Verdict::BadNode(_) => 4,
-            Verdict::BadEdge(_) => 5,
-            Verdict::BadLabel(_) => 6,
-            Verdict::BadProperty(_) => 7,
+            Refusal::BadRow(_, i) => i as u64,
+            _ => 0,
         }
     }
+}
 
-    // The faulty row, 0 where none is named.
-    pub fn row(self) -> u64
-        ensures { result ≡ row_of (cause_of self) }
-    {
-        match self {
-            Verdict::Accepted => 0,
-            Verdict::TooShort => 0,
-            Verdict::BadDirectory => 0,
-            Verdict::TooManyRows => 0,
-            Verdict::BadNode(i) => i as u64,
-            Verdict::BadEdge(i) => i as u64,
-            Verdict::BadLabel(i) => i as u64,
-            Verdict::BadProperty(i) => i as u64,
-        }
+// Refused at the lowest faulty row of a section.
+fn read_section(image: &[u8], s: Sections, section: Section) -> Result<(), Refusal>
+    requires { Laid image.now s }
+    ensures { cause_of result ≡ at_row (number_of_section section) (lowest (row_count_lem section image.now) 0 (bad_row_lem section image.now)) }
+{
+    match lowest_bad(image, s, section) {
+        Some(i) => Err(Refusal::BadRow(section, i)),
+        None => Ok(()),
     }
 }
 
 // 4 to 7: the first section with a faulty row, and its lowest one.
-fn read_rows(image: &[u8], s: Sections) -> Verdict
+fn read_rows(image: &[u8], s: Sections) -> Result<(), Refusal>
     requires { Laid image.now s }
     ensures { cause_of result ≡ row_fault image.now }
 {
-    if let Row::At(i) = lowest_bad(image, s, Section::Nodes) {
-        return Verdict::BadNode(i);
-    }
-    if let Row::At(i) = lowest_bad(image, s, Section::Edges) {
-        return Verdict::BadEdge(i);
-    }
-    if let Row::At(i) = lowest_bad(image, s, Section::Labels) {
-        return Verdict::BadLabel(i);
-    }
-    if let Row::At(i) = lowest_bad(image, s, Section::Properties) {
-        return Verdict::BadProperty(i);
-    }
-    Verdict::Accepted
+    read_section(image, s, Section::Nodes)?;
+    read_section(image, s, Section::Edges)?;
+    read_section(image, s, Section::Labels)?;
+    read_section(image, s, Section::Properties)
 }
 
 // The causes 1 to 7, in the order of 01.
-pub fn read(image: &[u8]) -> Verdict
+pub fn read(image: &[u8]) -> Result<(), Refusal>
     ensures { cause_of result ≡ image_fault image.now }
 {
     if image.len() < 16 {
-        return Verdict::TooShort;
+        return Err(Refusal::TooShort);
     }
     if !good_directory(image) {
-        return Verdict::BadDirectory;
+        return Err(Refusal::BadDirectory);
     }
     let s = sections_of(image);
     if too_many(s) {
-        return Verdict::TooManyRows;
+        return Err(Refusal::TooManyRows);
     }
     read_rows(image, s)
 }

@@ -1,19 +1,17 @@
 -- `image::reader::read_rows` meets its contract. Assumes nothing.
 use native.Mathlib.Omega.{arith}
-use Rattle.image.proofs.Causes.{bad_node_row, bad_edge_row, bad_label_row, bad_property_row, no_bad_row}
+use Rattle.std.proofs.lemmas.Result.{err_from_is_err_and}
+use Rattle.image.proofs.Causes.{nodes_refused, edges_refused, labels_refused, by_properties}
 use Rattle.image.proofs.reader.read_rows.Goals as goal
 
-pub returns-in-At : goal.returns-in-At
-returns-in-At c = search (bad_node_row, arith)
+pub returns-in_err-read_section : goal.returns-in_err-read_section
+returns-in_err-read_section c = let p = err_from_is_err_and c.from_residual.result c.from_residual.ensures.1 in rw (p.1, p.2) (search (nodes_refused, arith))
 
-pub returns-in-At-lowest_bad : goal.returns-in-At-lowest_bad
-returns-in-At-lowest_bad c = search (bad_edge_row, arith)
+pub returns-in_err-read_section-2 : goal.returns-in_err-read_section-2
+returns-in_err-read_section-2 c = let p = err_from_is_err_and c.from_residual-in_err-read_section-2.result c.from_residual-in_err-read_section-2.ensures.1 in rw (p.1, p.2) (search (edges_refused, arith))
 
-pub returns-in-At-lowest_bad-2 : goal.returns-in-At-lowest_bad-2
-returns-in-At-lowest_bad-2 c = search (bad_label_row, arith)
-
-pub returns-in-At-lowest_bad-3 : goal.returns-in-At-lowest_bad-3
-returns-in-At-lowest_bad-3 c = search (bad_property_row, arith)
+pub returns-in_err-read_section-3 : goal.returns-in_err-read_section-3
+returns-in_err-read_section-3 c = let p = err_from_is_err_and c.from_residual-in_err-read_section-3.result c.from_residual-in_err-read_section-3.ensures.1 in rw (p.1, p.2) (search (labels_refused, arith))
 
 pub returns : goal.returns
-returns c = search (no_bad_row, arith)
+returns c = search (by_properties, arith)
