@@ -11,54 +11,61 @@ use Rattle.meaning.specs.Table.{rows_of, fault12, fault13, fault14, fault15, fau
 use Rattle.meaning.proofs.Accepted.{clear}
 use Rattle.meaning.proofs.Bodies.{deep_all}
 use Rattle.rows.specs.Faults.{Formed}
-use Rattle.table.specs.Ready.{Shallow, found_row}
-use Rattle.table.specs.declared.lowest.Row.{Row}
-use Rattle.table.specs.declared.lowest.Row.TheVariants.{At, Nothing}
+use Rattle.std.specs.Prelude.{Option, Some, None, Result, Ok, Err, ⊤}
+use Rattle.table.specs.Ready.{Shallow, fault_by, number_of_fault}
+use Rattle.table.specs.Verdict.{cause_of, told_of}
+use Rattle.table.specs.declared.causes.Refusal.{Refusal}
+use Rattle.table.specs.declared.lowest.Fault.{Fault}
+use Rattle.words.specs.Fault.{found_row}
 use Rattle.rows.proofs.Rows.{formed_by}
 
 -- 15 found nothing: no row is too deep
 pub shallow_by : (pattern : List ℕ) → Formed pattern → row_cause (rows_of pattern) 15 (fault15 (rows_of pattern)) ≡ none → Shallow pattern
 shallow_by pattern f e = record { ok = deep_all (rows_of pattern) f.ok (clear (rows_of pattern) 15 (fault15 (rows_of pattern)) e) }
 
--- ------------------------------------------------------------------ check_rows
-module _ {pattern : List ℕ} (p : Row) where
-  pub all_formed : found_row p ≡ lowest (length (rows_of pattern)) 0 (fault12 (rows_of pattern)) → p ≡ Nothing → Formed pattern
+-- ------------------------------------------------------------------ check_fault
+-- o is what was found of the fault
+module _ (pattern : List ℕ) (x : Fault) (o : Option ℕ) (h : found_row o ≡ lowest (length (rows_of pattern)) 0 (fault_by x (rows_of pattern))) where
+  pub fault_found : (i : ℕ) → o ≡ Some i → some (number_of_fault x, i) ≡ row_cause (rows_of pattern) (number_of_fault x) (fault_by x (rows_of pattern))
   unfolding row_cause at_row
+  fault_found i e = rw (← h, e)
+
+  pub no_fault : o ≡ None → none ≡ row_cause (rows_of pattern) (number_of_fault x) (fault_by x (rows_of pattern))
+  unfolding row_cause at_row
+  no_fault e = rw (← h, e)
+
+-- ------------------------------------------------------------------ check_rows
+module _ (pattern : List ℕ) (p : Result ⊤ Refusal) where
+  pub all_formed : cause_of p ≡ row_cause (rows_of pattern) 12 (fault12 (rows_of pattern)) → p ≡ Ok tt → Formed pattern
   all_formed h e = formed_by pattern (rw (← h, e))
 
-  pub all_shallow : Formed pattern → found_row p ≡ lowest (length (rows_of pattern)) 0 (fault15 (rows_of pattern)) → p ≡ Nothing → Shallow pattern
-  unfolding row_cause at_row
+  pub all_shallow : Formed pattern → cause_of p ≡ row_cause (rows_of pattern) 15 (fault15 (rows_of pattern)) → p ≡ Ok tt → Shallow pattern
   all_shallow f h e = shallow_by pattern f (rw (← h, e))
 
--- p, q, r, s and t are what was found of the faults 12 to 16
-module _ (pattern : List ℕ) (p : Row) (hp : found_row p ≡ lowest (length (rows_of pattern)) 0 (fault12 (rows_of pattern))) where
-  pub malformed_row : (i : ℕ) → p ≡ At i → some (12, i) ≡ table_fault (rows_of pattern)
-  unfolding table_fault row_cause first_of at_row
-  malformed_row i e = rw (← hp, e)
+-- p, q, r and s are what the checks of the faults 12 to 15 told
+module _ (pattern : List ℕ) (p : Result ⊤ Refusal) (hp : cause_of p ≡ row_cause (rows_of pattern) 12 (fault12 (rows_of pattern))) where
+  pub malformed_row : (e : Refusal) → p ≡ Err e → some (told_of e) ≡ table_fault (rows_of pattern)
+  unfolding table_fault first_of
+  malformed_row e k = rw (← hp, k)
 
-  module _ (ep : p ≡ Nothing) (q : Row) (hq : found_row q ≡ lowest (length (rows_of pattern)) 0 (fault13 (rows_of pattern))) where
-    pub loose_row : (i : ℕ) → q ≡ At i → some (13, i) ≡ table_fault (rows_of pattern)
-    unfolding table_fault row_cause first_of at_row
-    loose_row i e = rw (← hp, ep, ← hq, e)
+  module _ (ep : p ≡ Ok tt) (q : Result ⊤ Refusal) (hq : cause_of q ≡ row_cause (rows_of pattern) 13 (fault13 (rows_of pattern))) where
+    pub loose_row : (e : Refusal) → q ≡ Err e → some (told_of e) ≡ table_fault (rows_of pattern)
+    unfolding table_fault first_of
+    loose_row e k = rw (← hp, ep, ← hq, k)
 
-    module _ (eq : q ≡ Nothing) (r : Row) (hr : found_row r ≡ lowest (length (rows_of pattern)) 0 (fault14 (rows_of pattern))) where
-      pub edgeless_row : (i : ℕ) → r ≡ At i → some (14, i) ≡ table_fault (rows_of pattern)
-      unfolding table_fault row_cause first_of at_row
-      edgeless_row i e = rw (← hp, ep, ← hq, eq, ← hr, e)
+    module _ (eq : q ≡ Ok tt) (r : Result ⊤ Refusal) (hr : cause_of r ≡ row_cause (rows_of pattern) 14 (fault14 (rows_of pattern))) where
+      pub edgeless_row : (e : Refusal) → r ≡ Err e → some (told_of e) ≡ table_fault (rows_of pattern)
+      unfolding table_fault first_of
+      edgeless_row e k = rw (← hp, ep, ← hq, eq, ← hr, k)
 
-      module _ (er : r ≡ Nothing) (s : Row) (hs : found_row s ≡ lowest (length (rows_of pattern)) 0 (fault15 (rows_of pattern))) where
-        pub deep_row : (i : ℕ) → s ≡ At i → some (15, i) ≡ table_fault (rows_of pattern)
-        unfolding table_fault row_cause first_of at_row
-        deep_row i e = rw (← hp, ep, ← hq, eq, ← hr, er, ← hs, e)
+      module _ (er : r ≡ Ok tt) (s : Result ⊤ Refusal) (hs : cause_of s ≡ row_cause (rows_of pattern) 15 (fault15 (rows_of pattern))) where
+        pub deep_row : (e : Refusal) → s ≡ Err e → some (told_of e) ≡ table_fault (rows_of pattern)
+        unfolding table_fault first_of
+        deep_row e k = rw (← hp, ep, ← hq, eq, ← hr, er, ← hs, k)
 
-        module _ (es : s ≡ Nothing) (t : Row) (ht : found_row t ≡ lowest (length (rows_of pattern)) 0 (fault16 (rows_of pattern))) where
-          pub untyped_row : (i : ℕ) → t ≡ At i → some (16, i) ≡ table_fault (rows_of pattern)
-          unfolding table_fault row_cause first_of at_row
-          untyped_row i e = rw (← hp, ep, ← hq, eq, ← hr, er, ← hs, es, ← ht, e)
-
-          pub no_faulty_row : t ≡ Nothing → none ≡ table_fault (rows_of pattern)
-          unfolding table_fault row_cause first_of at_row
-          no_faulty_row e = rw (← hp, ep, ← hq, eq, ← hr, er, ← hs, es, ← ht, e)
+        pub by_types : s ≡ Ok tt → (c : Cause) → c ≡ row_cause (rows_of pattern) 16 (fault16 (rows_of pattern)) → c ≡ table_fault (rows_of pattern)
+        unfolding table_fault first_of
+        by_types k c h = h ∙ rw (← hp, ep, ← hq, eq, ← hr, er, ← hs, k)
 
 -- ------------------------------------------------------------------ check
 module _ (pattern : List ℕ) where

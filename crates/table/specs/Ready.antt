@@ -1,14 +1,12 @@
 -- What the causes before it leave to a check of rows.
 use Rattle.std.specs.Prelude.{◌≡◌, List, Bool, ℕ, ◌-◌, ◌/◌, ◌<◌, ◌≤◌, length}
-use Rattle.std.proofs.Math.Option.{Option, none, some}
+use Rattle.std.proofs.Math.Option.{none}
 use Rattle.meaning.specs.Pattern.{nesting}
 use Rattle.meaning.specs.Table.{rows_of, item_at, as_pattern, fault12, fault13, fault14, fault15, fault16, pattern_fault}
 use Rattle.meaning.specs.Table.{Row as RowOf}
 use Rattle.rows.specs.Faults.{Formed, Stands}
 use Rattle.table.specs.declared.lowest.Fault.{Fault}
 use Rattle.table.specs.declared.lowest.Fault.TheVariants.{Malformed, Loose, Edgeless, TooDeep, Untyped}
-use Rattle.table.specs.declared.lowest.Row.{Row}
-use Rattle.table.specs.declared.lowest.Row.TheVariants.{At, Nothing}
 
 -- no row has more than two repetitions one in another
 pub record Shallow (pattern : List ℕ) : Type 0 where
@@ -41,6 +39,10 @@ Ready Edgeless pattern = Formed pattern
 Ready TooDeep pattern = Formed pattern
 Ready Untyped pattern = Formed pattern × Shallow pattern
 
-abbrev pub found_row : Row → Option ℕ
-found_row (At i) = some i
-found_row Nothing = none
+-- the refusal's number of a row with the fault
+abbrev pub number_of_fault : Fault → ℕ
+number_of_fault Malformed = 12
+number_of_fault Loose = 13
+number_of_fault Edgeless = 14
+number_of_fault TooDeep = 15
+number_of_fault Untyped = 16

@@ -1,15 +1,15 @@
--- The number and the row of each answer of the check.
-use Rattle.std.proofs.Math.Option.{none, some}
+-- The number and the row of each refusal of the check, and the cause that an outcome tells.
+use Rattle.std.specs.Prelude.{ℕ, Result, ⊤}
 use Rattle.meaning.specs.Basics.{Cause}
-use Rattle.table.specs.declared.causes.Verdict.{Verdict}
-use Rattle.table.specs.declared.causes.Verdict.TheVariants.{Accepted, BadLength, Malformed, Loose, Edgeless, TooDeep, Untyped}
+use Rattle.words.specs.Fault.{cause_by}
+use Rattle.table.specs.declared.causes.Refusal.{Refusal}
+use Rattle.table.specs.declared.causes.Refusal.TheVariants.{BadLength, BadRow}
+use Rattle.table.specs.Ready.{number_of_fault}
 
 -- 01, 'Check a pattern'
-abbrev pub cause_of : Verdict → Cause
-cause_of Accepted = none
-cause_of BadLength = some (11, 0)
-cause_of (Malformed i) = some (12, i)
-cause_of (Loose i) = some (13, i)
-cause_of (Edgeless i) = some (14, i)
-cause_of (TooDeep i) = some (15, i)
-cause_of (Untyped i) = some (16, i)
+abbrev pub told_of : Refusal → ℕ × ℕ
+told_of BadLength = (11, 0)
+told_of (BadRow fault i) = (number_of_fault fault, i)
+
+abbrev pub cause_of : Result ⊤ Refusal → Cause
+cause_of r = cause_by told_of r

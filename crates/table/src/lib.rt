@@ -7,5 +7,6 @@ mod repetition;
 mod typing;
 mod variables;
 
-pub use causes::{Verdict, check};
+pub use causes::{Refusal, check};
+pub use lowest::Fault;
 pub use variables::{fill_types, fill_variables, row_type, row_variables};

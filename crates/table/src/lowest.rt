@@ -3,7 +3,8 @@ ghost use Rattle.std.specs.Prelude.{◌≡◌, ◌≤◌, ◌+◌, ◌*◌, leng
 ghost use Rattle.meaning.specs.Basics.{lowest};
 ghost use Rattle.meaning.specs.Table.{rows_of};
 ghost use Rattle.rows.specs.Faults.{Tells};
-ghost use Rattle.table.specs.Ready.{Ready, fault_by, found_row};
+ghost use Rattle.table.specs.Ready.{Ready, fault_by};
+ghost use Rattle.words.specs.Fault.{found_row};
 
 use crate::repetition::{repeats_edgeless, too_deep};
 use crate::typing::untyped;
@@ -17,13 +18,6 @@ pub enum Fault {
     Edgeless,
     TooDeep,
     Untyped,
-}
-
-// The lowest faulty row, if there is one.
-#[derive(Clone, Copy)]
-pub enum Row {
-    At(usize),
-    Nothing,
 }
 
 // Whether row i has the fault.
@@ -40,18 +34,16 @@ fn is_faulty(pattern: &[u16], fault: Fault, i: usize) -> bool
     }
 }
 
-// The lowest row with the fault.
-pub fn lowest_faulty(pattern: &[u16], fault: Fault) -> Row
+// The lowest row with the fault, if there is one.
+pub fn lowest_faulty(pattern: &[u16], fault: Fault) -> Option<usize>
     requires { (length pattern.now ≤ 320) × Ready fault pattern.now }
     ensures { found_row result ≡ lowest (length (rows_of pattern.now)) 0 (fault_by fault (rows_of pattern.now)) }
 {
     let rows = pattern.len() / 5;
-    let mut i: usize = 0;
-    while i < rows {
+    for i in 0..rows {
         if is_faulty(pattern, fault, i) {
-            return Row::At(i);
+            return Some(i);
         }
-        i += 1;
     }
-    Row::Nothing
+    None
 }

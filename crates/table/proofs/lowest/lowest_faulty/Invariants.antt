@@ -1,4 +1,3 @@
-use Prim.Native.Nat.{◌-◌}
 use lib.ListN.{length}
 use Rattle.meaning.specs.Table.{rows_of}
 use Rattle.table.specs.Ready.{fault_by}
@@ -7,6 +6,3 @@ use Rattle.table.proofs.lowest.lowest_faulty.Given as goal
 
 abbrev pub invariant-loop-i : goal.invariant-loop-i
 invariant-loop-i l = Scanning (fault_by l.fault (rows_of l.pattern)) (length (rows_of l.pattern)) l.i
-
-abbrev pub decreases-loop-i : goal.decreases-loop-i
-decreases-loop-i l = l.rows - l.i
