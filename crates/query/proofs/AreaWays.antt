@@ -15,7 +15,7 @@ use Rattle.joins.specs.Projected.{found_in}
 use Rattle.meaning.proofs.Lists.{each_append, up_end}
 use Rattle.meaning.proofs.Logic.{no_true}
 use Rattle.meaning.proofs.TypeWords.{length_padded}
-use Rattle.std.specs.Prelude.{if◌then◌else◌}
+use Rattle.std.specs.Prelude.{if◌then◌else◌, Result, Ok, Err, is_err, ⊤}
 use Rattle.meaning.specs.Basics.{Cause, each, up_from}
 use Rattle.meaning.specs.Query.{query_type_of}
 use Rattle.meaning.specs.QueryListing.{query_in, types_or_zeros}
@@ -29,8 +29,8 @@ use Rattle.query.proofs.TypeWays.{name_type, variable_type}
 use Rattle.query.specs.Fine.{Accepted}
 use Rattle.query.specs.TypeArea.{Digits, TypesLeft}
 use Rattle.query.specs.Verdict.{cause_of}
-use Rattle.query.specs.declared.causes.Verdict.{Verdict}
-use Rattle.query.specs.declared.causes.Verdict.TheVariants.{TypeAreaTooShort}
+use Rattle.query.specs.declared.causes.Refusal.{Refusal}
+use Rattle.query.specs.declared.causes.Refusal.TheVariants.{TypeAreaTooShort}
 use Rattle.typecode.proofs.Octal.{found_octal}
 use Rattle.typecode.specs.Codes.{code_of}
 use Rattle.typecode.specs.Octal.{octal}
@@ -103,23 +103,30 @@ writing_all query d₀ d x w l =
 
 -- ------------------------------------------------------------------ check_types
 module _ (query d : List ℕ) where
-  pub left_short : length d < 72 → TypesLeft query d d TypeAreaTooShort
+  pub left_short : length d < 72 → TypesLeft query d d (Err TypeAreaTooShort)
   left_short h = record { verdict_is = rw (lt-ltb (length d) 72 h); types_are = rw (lt-ltb (length d) 72 h) }
 
-  -- r is whether the verdict v is a refusal
-  module _ (v : Verdict) (r : Bool) (told : r ≡ is_refused (cause_of v)) (q : cause_of v ≡ query_fault query) where
+  refused_is : (o : Result ⊤ Refusal) → is_err o ≡ is_refused (cause_of o)
+  refused_is (Ok u) = refl
+  refused_is (Err e) = refl
+
+  -- o is what the check told, r whether it refuses
+  module _ (o : Result ⊤ Refusal) (r : Bool) (err : r ≡ is_err o) (q : cause_of o ≡ query_fault query) where
+    told : r ≡ is_refused (cause_of o)
+    told = err ∙ refused_is o
+
     pub accepted_by : r ≡ false → Accepted query
-    accepted_by e = accepted_fine query (sym q ∙ no_cause (cause_of v) r told e)
+    accepted_by e = accepted_fine query (sym q ∙ no_cause (cause_of o) r told e)
 
     module _ (h : 72 ≤ length d) where
-      left_as : (a : List ℕ) → a ≡ over (types_or_zeros (query_fault query) query) d → TypesLeft query d a v
+      left_as : (a : List ℕ) → a ≡ over (types_or_zeros (query_fault query) query) d → TypesLeft query d a o
       left_as a w = record { verdict_is = q ∙ sym (ap (λ (b : Bool). if b then some (17, 0) else query_fault query) (le-ltb (length d) 72 h)); types_are = w ∙ sym (ap (λ (b : Bool). if b then d else over (types_or_zeros (query_fault query) query) d) (le-ltb (length d) 72 h)) }
 
-      pub left_types : r ≡ false → (a : List ℕ) → a ≡ over (query_type_words (query_in query)) d → TypesLeft query d a v
+      pub left_types : r ≡ false → (a : List ℕ) → a ≡ over (query_type_words (query_in query)) d → TypesLeft query d a o
       unfolding types_or_zeros
       left_types e a w = left_as a (w ∙ rw (accepted_by e).no_fault)
 
-      pub left_zeros : r ≡ true → (a : List ℕ) → a ≡ cleared 72 d → TypesLeft query d a v
+      pub left_zeros : r ≡ true → (a : List ℕ) → a ≡ cleared 72 d → TypesLeft query d a o
       unfolding types_or_zeros over cleared
       left_zeros e a w = left_as a (w ∙ go (query_fault query) (sym e ∙ told ∙ ap is_refused q))
         where

@@ -7,11 +7,12 @@ use Prim.Native.Nat.{ℕ}
 use Rattle.meaning.proofs.Causes.{first_none, whole_none}
 use Rattle.meaning.specs.Basics.{Cause, first_of, rowless}
 use Rattle.meaning.specs.QueryWords.{bad_layout_lem, bad_names_lem, parts_fault, parts_of, query_fault, query_of, query_untyped}
-use Rattle.query.proofs.Refusals.{first_cause, no_cause}
 use Rattle.query.specs.Fine.{Accepted, PartsFine}
-use Rattle.words.specs.Fault.{is_refused}
+use Rattle.std.specs.Prelude.{Result, Ok, Err, ⊤}
+use Rattle.table.specs.Verdict.{cause_of, told_of}
+use Rattle.table.specs.declared.causes.Refusal.{Refusal}
 
--- a, b, v and u are what was found of 31, 32, 11 to 16, 33; r is whether v refuses
+-- a, b, o and u are what was found of 31, 32, 11 to 16, 33
 module _ (query : List ℕ) (a : Bool) (at_31 : a ≡ bad_layout_lem query) where
   pub layout_refused : a ≡ true → some (31, 0) ≡ query_fault query
   unfolding query_fault first_of rowless
@@ -25,22 +26,22 @@ module _ (query : List ℕ) (a : Bool) (at_31 : a ≡ bad_layout_lem query) wher
     unfolding query_fault first_of rowless
     name_refused e = rw (← at_31, laid, ← at_32, e) refl
 
-    module _ (named : b ≡ false) (v : Cause) (at_11 : v ≡ parts_fault (parts_of query)) (r : Bool) (told : r ≡ is_refused v) where
-      pub pattern_refused : r ≡ true → v ≡ query_fault query
+    module _ (named : b ≡ false) (o : Result ⊤ Refusal) (at_11 : cause_of o ≡ parts_fault (parts_of query)) where
+      pub pattern_refused : (e : Refusal) → o ≡ Err e → some (told_of e) ≡ query_fault query
       unfolding query_fault first_of rowless
-      pattern_refused e = first_cause v r told (rowless 33 (query_untyped (query_of (parts_of query)))) e ∙ sym (rw (← at_31, laid, ← at_32, named, ← at_11) refl)
+      pattern_refused e k = rw (← at_31, laid, ← at_32, named, ← at_11, k) refl
 
-      pub parts_fine : r ≡ false → PartsFine query
-      parts_fine e = record { laid_out = sym at_31 ∙ laid; named = sym at_32 ∙ named; accepted = sym at_11 ∙ no_cause v r told e }
+      pub parts_fine : o ≡ Ok tt → PartsFine query
+      parts_fine k = record { laid_out = sym at_31 ∙ laid; named = sym at_32 ∙ named; accepted = sym at_11 ∙ rw k }
 
-      module _ (accepted : r ≡ false) (u : Bool) (at_33 : u ≡ query_untyped (query_of (parts_of query))) where
+      module _ (accepted : o ≡ Ok tt) (u : Bool) (at_33 : u ≡ query_untyped (query_of (parts_of query))) where
         pub type_refused : u ≡ true → some (33, 0) ≡ query_fault query
         unfolding query_fault first_of rowless
-        type_refused e = rw (← at_31, laid, ← at_32, named, ← at_11, no_cause v r told accepted, ← at_33, e) refl
+        type_refused e = rw (← at_31, laid, ← at_32, named, ← at_11, accepted, ← at_33, e) refl
 
         pub nothing_refused : u ≡ false → none ≡ query_fault query
         unfolding query_fault first_of rowless
-        nothing_refused e = rw (← at_31, laid, ← at_32, named, ← at_11, no_cause v r told accepted, ← at_33, e) refl
+        nothing_refused e = rw (← at_31, laid, ← at_32, named, ← at_11, accepted, ← at_33, e) refl
 
 -- ------------------------------------------------------------------ what no cause grants
 pub accepted_fine : (query : List ℕ) → query_fault query ≡ none → Accepted query

@@ -20,10 +20,8 @@ fn pattern_start(query: &[u16], n: usize, i: usize) -> usize
     ensures { StartIs query.now n i result }
 {
     let mut from = 1 + 3 * n;
-    let mut k: usize = 0;
-    while k < i {
+    for k in 0..i {
         from += wide(query[3 * k + 3]);
-        k += 1;
     }
     from
 }

@@ -10,7 +10,7 @@ mod restrictors;
 mod type_area;
 mod typing;
 
-pub use causes::{Verdict, check};
+pub use causes::{Refusal, check};
 pub use layout::{Part, part_at, parts};
 pub use restrictors::restrictors_fine;
 pub use type_area::check_types;

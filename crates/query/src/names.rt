@@ -9,10 +9,7 @@ use crate::layout::{part_at, parts};
 fn is_name(name: usize) -> bool
     ensures { result ≡ is_name_lem name }
 {
-    match name {
-        9..=12 => true,
-        _ => false,
-    }
+    matches!(name, 9..=12)
 }
 
 // Whether a part from i on has the name.
@@ -21,13 +18,11 @@ pub fn name_used(query: &[u16], name: usize, i: usize) -> bool
     ensures { result ≡ name_used_lem name (drop i (parts_of query.now)) }
 {
     let n = parts(query);
-    let mut j = i;
-    while j < n {
+    for j in i..n {
         let part = part_at(query, j);
         if name == part.name {
             return true;
         }
-        j += 1;
     }
     false
 }
@@ -53,13 +48,10 @@ pub fn bad_names(query: &[u16]) -> bool
     requires { bad_layout_lem query.now ≡ false }
     ensures { result ≡ bad_names_lem (parts_of query.now) }
 {
-    let n = parts(query);
-    let mut i: usize = 0;
-    while i < n {
+    for i in 0..parts(query) {
         if bad_name(query, i) {
             return true;
         }
-        i += 1;
     }
     false
 }

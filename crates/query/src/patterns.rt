@@ -6,21 +6,15 @@ ghost use Rattle.table.specs.Verdict.{cause_of};
 use crate::layout::{part_at, parts};
 
 // The first cause of the first part that has one.
-pub fn check_patterns(query: &[u16]) -> table::Verdict
+pub fn check_patterns(query: &[u16]) -> Result<(), table::Refusal>
     requires { bad_layout_lem query.now ≡ false }
     ensures { cause_of result ≡ parts_fault (parts_of query.now) }
 {
-    let n = parts(query);
-    let mut i: usize = 0;
-    while i < n {
+    for i in 0..parts(query) {
         let part = part_at(query, i);
         let from = part.from;
         let to = part.to;
-        let verdict = table::check(&query[from..to]);
-        if verdict.is_refused() {
-            return verdict;
-        }
-        i += 1;
+        table::check(&query[from..to])?;
     }
-    table::Verdict::Accepted
+    Ok(())
 }

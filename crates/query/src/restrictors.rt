@@ -8,10 +8,7 @@ use crate::layout::{part_at, parts};
 fn is_restrictor(restrictor: usize) -> bool
     ensures { result ≡ (leb 1 restrictor && leb restrictor 4) }
 {
-    match restrictor {
-        1..=4 => true,
-        _ => false,
-    }
+    matches!(restrictor, 1..=4)
 }
 
 // Whether the restrictor of every part is 1 to 4.
@@ -19,14 +16,11 @@ pub fn restrictors_fine(query: &[u16]) -> bool
     requires { bad_layout_lem query.now ≡ false }
     ensures { result ≡ not (bad_restrictor (parts_of query.now)) }
 {
-    let n = parts(query);
-    let mut i: usize = 0;
-    while i < n {
+    for i in 0..parts(query) {
         let part = part_at(query, i);
         if !is_restrictor(part.restrictor) {
             return false;
         }
-        i += 1;
     }
     true
 }

@@ -6,7 +6,7 @@ ghost use Rattle.meaning.specs.Report.{over};
 ghost use Rattle.query.specs.Fine.{Accepted};
 ghost use Rattle.query.specs.TypeArea.{Digits, TypesLeft};
 
-use crate::causes::{Verdict, check};
+use crate::causes::{Refusal, check};
 use crate::names::name_used;
 use crate::typing::type_code;
 use typecode::put_type;
@@ -34,26 +34,24 @@ fn write_types(query: &[u16], types: &mut [u16])
     requires { Accepted query.now × (72 ≤ length types.old) }
     ensures { types.new ≡ over (query_type_words (query_in query.now)) types.old }
 {
-    let mut x: usize = 0;
-    while x < 12 {
+    for x in 0..12 {
         let code = found_code(query, x + 1);
         put_type(types, 6 * x, code);
-        x += 1;
     }
 }
 
 // 17, then the check; the types in the first 72 words.
-pub fn check_types(query: &[u16], types: &mut [u16]) -> Verdict
+pub fn check_types(query: &[u16], types: &mut [u16]) -> Result<(), Refusal>
     ensures { TypesLeft query.now types.old types.new result }
 {
     if types.len() < 72 {
-        return Verdict::TypeAreaTooShort;
+        return Err(Refusal::TypeAreaTooShort);
     }
-    let verdict = check(query);
-    if verdict.is_refused() {
+    let outcome = check(query);
+    if outcome.is_err() {
         clear(types, 72);
     } else {
         write_types(query, types);
     }
-    verdict
+    outcome
 }

@@ -25,9 +25,7 @@ pub fn type_code(query: &[u16], x: usize) -> u64
     ensures { result ≡ code_of (found_in (parts_of query.now) x) }
 {
     let mut code: u64 = 0;
-    let mut i = parts(query);
-    while 0 < i {
-        i -= 1;
+    for i in (0..parts(query)).rev() {
         let part = part_at(query, i);
         let from = part.from;
         let to = part.to;
@@ -42,12 +40,10 @@ pub fn untyped(query: &[u16]) -> bool
     requires { PartsFine query.now }
     ensures { result ≡ query_untyped (query_of (parts_of query.now)) }
 {
-    let mut x: usize = 1;
-    while x < 9 {
+    for x in 1..9 {
         if type_code(query, x) == CLASH {
             return true;
         }
-        x += 1;
     }
     false
 }

@@ -1,3 +1,4 @@
+use Rattle.std.proofs.lemmas.Result.{err_from_is_err_and}
 use Rattle.query.proofs.CheckWays.{laid_out, layout_refused, name_refused, nothing_refused, parts_fine, pattern_refused, type_refused}
 use native.Mathlib.Omega.{arith}
 use Rattle.query.proofs.causes.check.Goals as goal
@@ -11,11 +12,11 @@ bad_names-requires c = search (laid_out, arith)
 pub returns-then-bad_names : goal.returns-then-bad_names
 returns-then-bad_names c = search (name_refused, arith)
 
-pub check_patterns-pattern-requires : goal.check_patterns-pattern-requires
-check_patterns-pattern-requires c = search (laid_out, arith)
+pub check_patterns-requires : goal.check_patterns-requires
+check_patterns-requires c = search (laid_out, arith)
 
-pub returns-then-is_refused : goal.returns-then-is_refused
-returns-then-is_refused c = search (pattern_refused, arith)
+pub returns-in_err-check_patterns : goal.returns-in_err-check_patterns
+returns-in_err-check_patterns c = let p = err_from_is_err_and c.from_residual.result c.from_residual.ensures.1 in rw (p.1, p.2) (search (pattern_refused, arith))
 
 pub untyped-requires : goal.untyped-requires
 untyped-requires c = search (parts_fine, arith)

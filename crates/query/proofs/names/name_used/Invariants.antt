@@ -1,10 +1,6 @@
 use Rattle.meaning.specs.QueryWords.{name_used_lem}
 use Rattle.query.proofs.Behind.{Behind}
-use Prim.Native.Nat.{◌-◌}
 use Rattle.query.proofs.names.name_used.Given as goal
 
 abbrev pub invariant-loop-j : goal.invariant-loop-j
 invariant-loop-j l = Behind (name_used_lem l.name) l.query l.i l.j
-
-abbrev pub decreases-loop-j : goal.decreases-loop-j
-decreases-loop-j l = l.n - l.j

@@ -1,10 +1,6 @@
 use Rattle.meaning.specs.QueryWords.{parts_fault}
 use Rattle.query.proofs.Behind.{Behind}
-use Prim.Native.Nat.{◌-◌}
 use Rattle.query.proofs.patterns.check_patterns.Given as goal
 
 abbrev pub invariant-loop-i : goal.invariant-loop-i
 invariant-loop-i l = Behind parts_fault l.query 0 l.i
-
-abbrev pub decreases-loop-i : goal.decreases-loop-i
-decreases-loop-i l = l.n - l.i

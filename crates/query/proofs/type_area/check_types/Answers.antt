@@ -8,8 +8,8 @@ returns-then-types-lt72 c = search (left_short, arith)
 pub write_types-requires : goal.write_types-requires
 write_types-requires c = search (accepted_by, arith)
 
-pub returns-then-is_refused : goal.returns-then-is_refused
-returns-then-is_refused c = search (left_zeros, arith)
+pub returns-then-is_err : goal.returns-then-is_err
+returns-then-is_err c = search (left_zeros, arith)
 
-pub returns-else-is_refused : goal.returns-else-is_refused
-returns-else-is_refused c = search (left_types, arith)
+pub returns-else-is_err : goal.returns-else-is_err
+returns-else-is_err c = search (left_types, arith)

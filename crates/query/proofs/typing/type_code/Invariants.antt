@@ -3,6 +3,3 @@ use Rattle.query.proofs.typing.type_code.Given as goal
 
 abbrev pub invariant-loop-i : goal.invariant-loop-i
 invariant-loop-i l = Coded l.query l.x l.i l.code
-
-abbrev pub decreases-loop-i : goal.decreases-loop-i
-decreases-loop-i l = l.i
