@@ -8,16 +8,14 @@ use lib.Dec.{leb, ltb}
 use lib.ListN.{length}
 use borrow.Author.Tests.{leb-true, leb-false, le-ltb, lt-ltb}
 use Rattle.meaning.proofs.Logic.{not_true, not_false}
-use Rattle.std.specs.Prelude.{if◌then◌else◌}
+use Rattle.std.specs.Prelude.{if◌then◌else◌, Result, ⊤}
 use Rattle.meaning.specs.Basics.{Cause}
 use Rattle.meaning.specs.Image.{image_fault}
-use Rattle.meaning.specs.Report.{over, report_bytes, cause_bytes, wide_enough_lem}
+use Rattle.meaning.specs.Report.{over, cause_bytes, wide_enough_lem}
 use Rattle.meaning.specs.Operations.{ReadLeft, read_image, CheckLeft}
 use Rattle.meaning.specs.QueryListing.{check_query, types_or_zeros}
 use Rattle.meaning.specs.QueryWords.{query_fault}
-use Rattle.words.specs.Fault.{number_of, row_of}
-use Rattle.words.proofs.Refusals.{cause_reported}
-use Rattle.query.specs.declared.causes.Verdict.{Verdict}
+use Rattle.query.specs.declared.causes.Refusal.{Refusal}
 use Rattle.query.specs.Verdict.{cause_of}
 use Rattle.query.specs.TypeArea.{TypesLeft}
 
@@ -47,10 +45,10 @@ module _ (image d : List ℕ) where
   unfolding read_image
   no_report s e f = rw (narrow_is d s e f)
 
-  pub reported : (s : Bool) → s ≡ not (wide_enough_lem d) → s ≡ false → (c : Cause) → c ≡ image_fault image → (n r : ℕ) → n ≡ number_of c → r ≡ row_of c → (d' : List ℕ) → d' ≡ over (report_bytes n r 0 0 0 0) d
+  pub reported : (s : Bool) → s ≡ not (wide_enough_lem d) → s ≡ false → (c : Cause) → c ≡ image_fault image → (d' : List ℕ) → d' ≡ over (cause_bytes c) d
       → ◌≡◌ {A = ReadLeft} (record { result = 1; report = d' }) (read_image image d)
   unfolding read_image
-  reported s h f c e n r en er d' w = rw (wide_is d s h f, ← e, ← cause_reported c, w, en, er)
+  reported s h f c e d' w = rw (wide_is d s h f, ← e, w)
 
 -- w is the query, t the type area, d the report's bytes
 module _ (w t d : List ℕ) where
@@ -65,8 +63,8 @@ module _ (w t d : List ℕ) where
   checked_by true c t' e f = rw (e, f) refl
   checked_by false c t' e f = rw (e, f) refl
 
-  pub checked : (s : Bool) → s ≡ not (wide_enough_lem d) → s ≡ false → (v : Verdict) (t' : List ℕ) → TypesLeft w t t' v → (n r : ℕ) → n ≡ number_of (cause_of v) → r ≡ row_of (cause_of v) → (d' : List ℕ) → d' ≡ over (report_bytes n r 0 0 0 0) d
+  pub checked : (s : Bool) → s ≡ not (wide_enough_lem d) → s ≡ false → (v : Result ⊤ Refusal) (t' : List ℕ) → TypesLeft w t t' v → (d' : List ℕ) → d' ≡ over (cause_bytes (cause_of v)) d
       → ◌≡◌ {A = CheckLeft} (record { result = 1; types = t'; report = d' }) (check_query w t d)
   unfolding check_query
-  checked s h f v t' k n r en er d' e =
-      rw (wide_is d s h f, e, en, er, cause_reported (cause_of v)) (checked_by (ltb (length t) 72) (cause_of v) t' k.verdict_is k.types_are)
+  checked s h f v t' k d' e =
+      rw (wide_is d s h f, e) (checked_by (ltb (length t) 72) (cause_of v) t' k.verdict_is k.types_are)

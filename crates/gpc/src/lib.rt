@@ -2,21 +2,20 @@
 // `meaning`, and holds for all that is lent.
 #![tactic(auto)]
 
-mod cause;
 mod fixed;
+mod refusal;
 
 ghost use Rattle.std.specs.Prelude.{◌≡◌, not, ◌≤◌, length};
 ghost use Rattle.std.proofs.Math.Option.{none};
 ghost use Rattle.meaning.specs.Page.{Left};
-ghost use Rattle.meaning.specs.Report.{bit, cause_bytes, over, wide_enough_lem};
+ghost use Rattle.meaning.specs.Report.{bit, wide_enough_lem};
 ghost use Rattle.meaning.specs.Operations.{ReadLeft, read_image, CheckLeft, JudgeLeft};
 ghost use Rattle.meaning.specs.QueryListing.{check_query, fill_page_lem, judge_query, judge_record, query_fixed_fault};
-ghost use Rattle.gpc.specs.Cause.{cause_of};
-ghost use Rattle.gpc.specs.Answered.{Begun, JudgeReported, RestKept};
+ghost use Rattle.gpc.specs.Answered.{Begun, JudgeReported, RestKept, answer_of};
 
-use cause::Cause;
 use fixed::first_cause;
 use records::Record;
+use words::report_outcome;
 
 // Whether the eight numbers do not fit.
 fn is_short(report: &[u8]) -> bool
@@ -32,8 +31,7 @@ pub fn gpc_read_image(image: &[u8], report: &mut [u8]) -> u64
     if is_short(report) {
         return 0;
     }
-    let read = image::read(image);
-    words::write_report(report, read.number(), read.row(), 0, 0, 0, 0);
+    report_outcome(report, image::read(image));
     1
 }
 
@@ -44,42 +42,49 @@ pub fn gpc_check_query(query: &[u16], types: &mut [u16], report: &mut [u8]) -> u
     if is_short(report) {
         return 0;
     }
-    let checked = query::check_types(query, types);
-    words::write_report(report, checked.number(), checked.row(), 0, 0, 0, 0);
+    report_outcome(report, query::check_types(query, types));
     1
 }
 
-// The number and the row of a refusal; all else is 0.
-fn refuse(report: &mut [u8], cause: Cause)
-    requires { 64 ≤ length report.old }
-    ensures { report.new ≡ over (cause_bytes (cause_of cause)) report.old }
-{
-    words::write_report(report, cause.number(), cause.row(), 0, 0, 0, 0);
+// Why a call goes no further: the report has no room, or a refusal stands in it.
+#[derive(Clone, Copy)]
+enum Stopped {
+    NoReport,
+    Reported,
 }
 
-// What every call that looks for records begins with: 0, no room to report; 1, refused; 2, nothing refuses it.
-fn begin(image: &[u8], query: &[u16], work: &[u16], report: &mut [u8]) -> u64
+impl Stopped {
+    // What the call answers.
+    fn answer(self) -> u64
+        ensures { result ≡ answer_of self }
+    {
+        match self {
+            Stopped::NoReport => 0,
+            Stopped::Reported => 1,
+        }
+    }
+}
+
+// What every call that looks for records begins with: Ok where nothing refuses it.
+fn begin(image: &[u8], query: &[u16], work: &[u16], report: &mut [u8]) -> Result<(), Stopped>
     ensures { Begun image.now query.now work.now report.old report.new result }
 {
     if is_short(report) {
-        return 0;
+        return Err(Stopped::NoReport);
     }
-    let cause = first_cause(image, query, work);
-    if cause.is_refused() {
-        refuse(report, cause);
-        return 1;
+    let outcome = first_cause(image, query, work);
+    if outcome.is_err() {
+        report_outcome(report, outcome);
+        return Err(Stopped::Reported);
     }
-    2
+    Ok(())
 }
 
 // Yes or no as a number.
 fn verdict_number(yes: bool) -> u64
     ensures { result ≡ bit yes }
 {
-    if yes {
-        return 1;
-    }
-    0
+    u64::from(yes)
 }
 
 // The judge in the first 20,000 words of the work buffer.
@@ -110,9 +115,8 @@ pub fn gpc_judge_record(
 ) -> u64
     ensures { ◌≡◌ {A = JudgeLeft} (record { result = result; work = work.new; report = report.new }) (judge_record image.now query.now rec.now work.old report.old) }
 {
-    let begun = begin(image, query, work, report);
-    if begun < 2 {
-        return begun;
+    if let Err(stopped) = begin(image, query, work, report) {
+        return stopped.answer();
     }
     report_verdict(image, query, rec, work, report);
     1
@@ -133,9 +137,8 @@ pub fn gpc_fill_page(
     if sitting::is_short(sitting) {
         return 0;
     }
-    let begun = begin(image, query, work, report);
-    if begun < 2 {
-        return begun;
+    if let Err(stopped) = begin(image, query, work, report) {
+        return stopped.answer();
     }
     calls::fill_page(image, query, bookmark, sitting, page, work, report)
 }

@@ -6,11 +6,11 @@ use Rattle.gpc.proofs.begin.Goals as goal
 pub returns-then-is_short : goal.returns-then-is_short
 returns-then-is_short c = search (begun_short, arith)
 
-pub refuse-requires : goal.refuse-requires
-refuse-requires c = search (wide_enough, arith)
+pub report_outcome-requires : goal.report_outcome-requires
+report_outcome-requires c = search (wide_enough, arith)
 
-pub returns-then-is_refused : goal.returns-then-is_refused
-returns-then-is_refused c = search (begun_refused, arith)
+pub returns-then-is_err : goal.returns-then-is_err
+returns-then-is_err c = search (begun_refused, arith)
 
 pub returns : goal.returns
 returns c = search (begun_granted, arith)

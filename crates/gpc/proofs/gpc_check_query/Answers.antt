@@ -6,8 +6,8 @@ use Rattle.gpc.proofs.gpc_check_query.Goals as goal
 pub returns-then-is_short : goal.returns-then-is_short
 returns-then-is_short c = search (no_check, arith)
 
-pub write_report-requires : goal.write_report-requires
-write_report-requires c = search (wide_enough, arith)
+pub report_outcome-requires : goal.report_outcome-requires
+report_outcome-requires c = search (wide_enough, arith)
 
 pub returns : goal.returns
 returns c = search (checked, arith)
