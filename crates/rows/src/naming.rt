@@ -49,10 +49,8 @@ fn named(pattern: &[u16], i: usize) -> usize
 {
     let rows = pattern.len() / 5;
     let mut n: usize = 0;
-    let mut j: usize = 0;
-    while j < rows {
+    for j in 0..rows {
         n += places(pattern, j, i);
-        j += 1;
     }
     n
 }
