@@ -65,12 +65,10 @@ fn clashes(pattern: &[u16], row: usize) -> bool
     requires { Typable pattern.now row }
     ensures { Clashes pattern.now row result }
 {
-    let mut x: usize = 1;
-    while x < 9 {
+    for x in 1..9 {
         if type_of(pattern, row, x) == CLASH {
             return true;
         }
-        x += 1;
     }
     false
 }

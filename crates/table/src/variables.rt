@@ -38,10 +38,8 @@ pub fn row_variables(pattern: &[u16], row: usize) -> u64
     ensures { HasVariables pattern.now row result }
 {
     let mut mask: u64 = 0;
-    let mut x: usize = 1;
-    while x < 9 {
+    for x in 1..9 {
         mask += weight(pattern, row, x);
-        x += 1;
     }
     mask
 }
@@ -52,10 +50,8 @@ pub fn fill_variables(pattern: &[u16], variables: &mut [u64])
     ensures { variables.new ≡ list_of (variables_at_lem pattern.now) (length pattern.now / 5) ++ drop (length pattern.now / 5) variables.old }
 {
     let rows = pattern.len() / 5;
-    let mut i: usize = 0;
-    while i < rows {
+    for i in 0..rows {
         variables[i] = row_variables(pattern, i);
-        i += 1;
     }
 }
 
@@ -65,9 +61,7 @@ pub fn fill_types(pattern: &[u16], types: &mut [u64])
     ensures { types.new ≡ list_of (type_at pattern.now) (8 * (length pattern.now / 5)) ++ drop (8 * (length pattern.now / 5)) types.old }
 {
     let all = 8 * (pattern.len() / 5);
-    let mut k: usize = 0;
-    while k < all {
+    for k in 0..all {
         types[k] = row_type(pattern, k / 8, k % 8 + 1);
-        k += 1;
     }
 }

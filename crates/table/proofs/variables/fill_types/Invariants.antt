@@ -1,10 +1,6 @@
 use Rattle.table.proofs.Filling.{Tabled}
 use Rattle.table.specs.Variables.{type_at}
-use Prim.Native.Nat.{◌-◌}
 use Rattle.table.proofs.variables.fill_types.Given as goal
 
 abbrev pub invariant-loop-k : goal.invariant-loop-k
 invariant-loop-k l = Tabled (type_at l.pattern) l.all l.initial.types l.types l.k
-
-abbrev pub decreases-loop-k : goal.decreases-loop-k
-decreases-loop-k l = l.all - l.k

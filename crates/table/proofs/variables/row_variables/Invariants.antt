@@ -1,9 +1,5 @@
 use Rattle.table.proofs.Filling.{Gathering}
-use Prim.Native.Nat.{◌-◌}
 use Rattle.table.proofs.variables.row_variables.Given as goal
 
 abbrev pub invariant-loop-x : goal.invariant-loop-x
 invariant-loop-x l = Gathering l.pattern l.row l.mask l.x
-
-abbrev pub decreases-loop-x : goal.decreases-loop-x
-decreases-loop-x l = 9 - l.x
