@@ -56,12 +56,9 @@ fn sums_each(few: Set, many: Set) -> Set
     ensures { Sums (set_of few.w) (set_of many.w) (set_of result.w) }
 {
     let mut r = Set::empty();
-    let mut k = few.least(0);
-    while k < Set::END {
-        let next = k + 1;
+    for k in few.iter() {
         let more = raised(many, k);
         r = r.union(more);
-        k = few.least(next);
     }
     r
 }
@@ -105,6 +102,7 @@ pub fn closed(s: Set, steps: Set) -> Set
         return all_from(s.least(0));
     }
     let mut r = s;
+    // by hand: the set that is walked grows on the way
     let mut k = r.least(0);
     while k < Set::END {
         let next = k + 1;

@@ -1,10 +1,7 @@
-use Prim.Native.Nat.{◌-◌}
 use Rattle.bits.specs.Sets.{set_of}
+use Rattle.bits.specs.Members.{Walked}
 use Rattle.bounds.proofs.SumWays.{Summed}
 use Rattle.bounds.proofs.sums.sums_each.Given as goal
 
 abbrev pub invariant-loop-k : goal.invariant-loop-k
-invariant-loop-k l = Summed (set_of l.few.w) (set_of l.many.w) (set_of l.r.w) l.k
-
-abbrev pub decreases-loop-k : goal.decreases-loop-k
-decreases-loop-k l = 256 - l.k
+invariant-loop-k l = Walked l.fn.few.w (λ n. Summed (set_of l.fn.few.w) (set_of l.many.w) (set_of l.r.w) n) l.k-iterator
