@@ -1,4 +1,3 @@
 pub mod Numbers
 pub mod Written
 pub mod Seek
-pub mod Refusals
