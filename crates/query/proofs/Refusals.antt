@@ -1,8 +1,8 @@
 -- A cause that does not refuse is none.
 use mathlib.Core.Path.{◌∙◌, ◌≡◌, refl, sym}
 use mathlib.Core.Option.{none, some}
-use mathlib.Core.Bool.{Bool, false, true}
-use Rattle.meaning.proofs.Logic.{no_false, no_true}
+use mathlib.Core.Bool.{Bool, false}
+use Rattle.meaning.proofs.Logic.{no_true}
 use Rattle.meaning.specs.Basics.{Cause}
 use Rattle.words.specs.Fault.{is_refused}
 

@@ -1,5 +1,4 @@
 -- `words::refusal::report_outcome` meets its contract. Assumes nothing.
-use borrow.Author.Rules.{rules}
 use Rattle.meaning.specs.Report.{cause_bytes}
 use Rattle.words.proofs.refusal.report_outcome.Goals as goal
 
