@@ -3,6 +3,7 @@ use mathlib.Core.Path.{◌≡◌, refl, sym, ap, ◌∙◌}
 use mathlib.Core.List.{List}
 use mathlib.Core.Bool.{Bool, true, false, ◌&&◌, ◌||◌}
 use mathlib.Core.Option.{none, some}
+use Rattle.std.specs.Prelude.{None, Option, Some, is_some}
 use mathlib.Core.Logic.{◌≢◌}
 use Prim.Native.Nat.{ℕ, zero, suc, ◌*◌, ◌+◌, ◌%◌, ◌/◌, ◌<◌, ◌≤◌}
 use native.Mathlib.Omega.{arith}
@@ -14,7 +15,8 @@ use Rattle.std.specs.Prelude.{if◌then◌else◌}
 use Rattle.meaning.specs.Graph.{Element}
 use Rattle.meaning.proofs.Logic.{and_both, both_equal, is_false, or_l, or_r}
 use Rattle.compiled.specs.Words.{graph_in, is_below, labels_in, names, number_in, pair_of, properties_in, some_names, value_in, value_of}
-use Rattle.compiled.specs.Sound.{Lawful, LowerBound, Rises}
+use Rattle.compiled.specs.Values as values
+use Rattle.compiled.specs.Sound.{FoundBy, Lawful, LowerBound, Rises}
 
 -- ------------------------------------------------------------------ one word
 pub names_is : (w x k : ℕ) → k < 65536 → names w x k ≡ eqb (pair_of w) (x * 65536 + k)
@@ -48,111 +50,114 @@ unfolding some_row_lem
 some_miss zero f h = refl
 some_miss (suc n) f h = rw (h n (omega arith)) (some_miss n f (λ i l. h i (omega arith)))
 
--- the n words from `at` on rise, and just r of them have a pair below x * 65536 + k
-module _ (g : List ℕ) (at n x k r : ℕ) (rise : Rises at n g) (small : k < 65536) (bound : LowerBound (is_below g at (x * 65536 + k)) n r) where
+-- the n words from `at` on rise
+module _ (g : List ℕ) (at n : ℕ) (rise : Rises at n g) where
   abbrev at_row : ℕ → ℕ
   at_row i = get_or g (at + i) 0
 
-  only_row : (i : ℕ) → i < n → pair_of (at_row i) ≡ x * 65536 + k → i ≡ r
-  unfolding is_below
-  only_row i h e = go (ltb i r) (ltb r i) refl refl
+  -- no two of them have one pair
+  one_row : (i j : ℕ) → i < n → j < n → pair_of (at_row i) ≡ pair_of (at_row j) → i ≡ j
+  one_row i j h l e = go (ltb i j) (ltb j i) refl refl
     where
-      go : (c d : Bool) → ltb i r ≡ c → ltb r i ≡ d → i ≡ r
-      go true d p q = let z : pair_of (at_row i) < x * 65536 + k = ltb-true _ _ (bound.before i (ltb-true i r p)) in absurd (omega arith)
-      go false true p q =
-          let l : r < i = ltb-true r i q in
-          let z : x * 65536 + k ≤ pair_of (at_row r) = ltb-false _ _ (bound.after r (omega arith) (omega arith)) in
-          absurd (omega (arith, rise.is r i l h))
-      go false false p q = omega (arith, ltb-false i r p, ltb-false r i q)
+      go : (c d : Bool) → ltb i j ≡ c → ltb j i ≡ d → i ≡ j
+      go true d p q = let z : i < j = ltb-true i j p in absurd (omega (arith, rise.is i j z l))
+      go false true p q = let z : j < i = ltb-true j i q in absurd (omega (arith, rise.is j i z h))
+      go false false p q = omega (arith, ltb-false i j p, ltb-false j i q)
 
-  other_row : (i : ℕ) → i < n → (i ≡ r → ⊥) → names (at_row i) x k ≡ false
-  other_row i h z = names_is (at_row i) x k small ∙ ne_eqb _ _ (λ e. z (only_row i h e))
-
-  -- the row at which the search ended
-  pub miss_past : n ≤ r → (i : ℕ) → i < n → names (at_row i) x k ≡ false
-  miss_past l i h = other_row i h (λ e. omega arith)
-
-  pub miss_other : (pair_of (at_row r) ≡ x * 65536 + k → ⊥) → (i : ℕ) → i < n → names (at_row i) x k ≡ false
-  miss_other d i h = names_is (at_row i) x k small ∙ ne_eqb _ _ (λ e. d (ap (λ (j : ℕ). pair_of (at_row j)) (sym (only_row i h e)) ∙ e))
-
-  pub hit : pair_of (at_row r) ≡ x * 65536 + k → names (at_row r) x k ≡ true
-  hit e = names_is (at_row r) x k small ∙ eq-eqb _ _ e
-
-  -- of labels
-  pub none_named : ((i : ℕ) → i < n → names (at_row i) x k ≡ false) → some_names g at n x k ≡ false
-  unfolding some_names
-  none_named f = some_miss n (λ i. names (at_row i) x k) f
-
-  pub one_named : r < n → names (at_row r) x k ≡ true → some_names g at n x k ≡ true
-  unfolding some_names
-  one_named h t = some_hit n r (λ i. names (at_row i) x k) h t
-
-  -- of properties
-  next_value : (m : ℕ) (c : Bool) → names (at_row m) x k ≡ c → value_of g at (suc m) x k ≡ (if c then some (value_in (at_row m)) else value_of g at m x k)
-  unfolding value_of
-  next_value m true h = rw (value_of, h)
-  next_value m false h = rw (value_of, h)
-
-  pub no_value : (m : ℕ) → m ≤ n → ((i : ℕ) → i < n → names (at_row i) x k ≡ false) → value_of g at m x k ≡ none
-  unfolding value_of
-  no_value zero l f = refl
-  no_value (suc m) l f = next_value m false (f m (omega arith)) ∙ no_value m (omega arith) f
-
-  pub the_value : (m : ℕ) → m ≤ n → r < m → names (at_row r) x k ≡ true → value_of g at m x k ≡ some (value_in (at_row r))
-  the_value zero l h t = absurd (omega arith)
-  the_value (suc m) l h t = go (eqb m r) refl (the_value m)
-    where
-      go : (c : Bool) → eqb m r ≡ c → (m ≤ n → r < m → names (at_row r) x k ≡ true → value_of g at m x k ≡ some (value_in (at_row r))) → value_of g at (suc m) x k ≡ some (value_in (at_row r))
-      go true e ih = let z : m ≡ r = eqb-true m r e in rw z (next_value r true t)
-      go false e ih =
-          let z : m ≢ r = eqb-false m r e in
-          next_value m false (other_row m (omega arith) z) ∙ ih (omega arith) (omega arith) t
-
--- ------------------------------------------------------------------ the ways out
--- p is the pair that was looked for, and r the row at which the search ended, of n
-module _ (g : List ℕ) (a : Lawful g) (x : Element) (k p n r : ℕ) (small : k < 65536) (pair : p ≡ number_in g x * 65536 + k) where
-  module _ (count : n ≡ labels_in g) (bound : LowerBound (is_below g 208 p) n r) where
-    its_bound : LowerBound (is_below g 208 (number_in g x * 65536 + k)) (labels_in g) r
-    its_bound = rw (← pair, ← count) bound
-
-    pub label_past : n ≤ r → false ≡ (graph_in g).label x k
-    unfolding graph_in
-    label_past h =
-        let s = labels_in g in
-        sym (none_named g 208 s (number_in g x) k r a.labels_rise small its_bound (miss_past g 208 s (number_in g x) k r a.labels_rise small its_bound (omega arith)))
-
-    pub label_here : r < n → (w : ℕ) → w ≡ get_or g (208 + r) 0 → eqb (w / 17179869184) p ≡ (graph_in g).label x k
-    unfolding graph_in
-    label_here h w e = go (eqb (w / 17179869184) p) refl
+  -- just r of them have a pair below
+  module _ (pair r : ℕ) (bound : LowerBound (is_below g at pair) n r) where
+    only_row : (i : ℕ) → i < n → pair_of (at_row i) ≡ pair → (r < n) × (i ≡ r)
+    unfolding is_below
+    only_row i h e = go (ltb i r) (ltb r i) refl refl
       where
-        go : (c : Bool) → eqb (w / 17179869184) p ≡ c → c ≡ some_names g 208 (labels_in g) (number_in g x) k
-        go true q =
-            let z : pair_of (get_or g (208 + r) 0) ≡ number_in g x * 65536 + k = ap pair_of (sym e) ∙ eqb-true _ _ q ∙ pair in
-            sym (one_named g 208 (labels_in g) (number_in g x) k r a.labels_rise small its_bound (omega arith) (hit g 208 (labels_in g) (number_in g x) k r a.labels_rise small its_bound z))
-        go false q =
-            let z : pair_of (get_or g (208 + r) 0) ≡ number_in g x * 65536 + k → ⊥ = λ d. eqb-false _ _ q (ap pair_of e ∙ d ∙ sym pair) in
-            sym (none_named g 208 (labels_in g) (number_in g x) k r a.labels_rise small its_bound (miss_other g 208 (labels_in g) (number_in g x) k r a.labels_rise small its_bound z))
+        go : (c d : Bool) → ltb i r ≡ c → ltb r i ≡ d → (r < n) × (i ≡ r)
+        go true d p q = let z : pair_of (at_row i) < pair = ltb-true _ _ (bound.before i (ltb-true i r p)) in absurd (omega arith)
+        go false true p q =
+            let l : r < i = ltb-true r i q in
+            let z : pair ≤ pair_of (at_row r) = ltb-false _ _ (bound.after r (omega arith) (omega arith)) in
+            absurd (omega (arith, rise.is r i l h))
+        go false false p q = let z : i ≡ r = omega (arith, ltb-false i r p, ltb-false r i q) in (omega arith, z)
 
-  module _ (count : n ≡ properties_in g) (bound : LowerBound (is_below g 1008 p) n r) where
-    this_bound : LowerBound (is_below g 1008 (number_in g x * 65536 + k)) (properties_in g) r
-    this_bound = rw (← pair, ← count) bound
+    -- the ways out of `find`
+    pub found_past : n ≤ r → FoundBy at n g pair None
+    found_past l = record { none_has = λ e i h m. let z : r < n = (only_row i h m).0 in absurd (omega arith); one_has = λ w e. cc }
 
-    pub value_past : n ≤ r → none ≡ (graph_in g).property x k
+    module _ (h : r < n) (w : ℕ) (e : w ≡ get_or g (at + r) 0) where
+      pub found_other : (w / 17179869184 ≡ pair → ⊥) → FoundBy at n g pair None
+      found_other d = record { none_has = λ q i k m. d (ap pair_of e ∙ (ap (λ (j : ℕ). pair_of (at_row j)) (sym (only_row i k m).1) ∙ m)); one_has = λ v q. cc }
+
+      pub found_here : w / 17179869184 ≡ pair → FoundBy at n g pair (Some w)
+      found_here d = record { none_has = λ q. cc; one_has = λ v q. let z : w ≡ v = cc in (r, h, sym z ∙ e, ap pair_of (sym z) ∙ d) }
+
+  module _ (x k : ℕ) (small : k < 65536) where
+    missing : ((i : ℕ) → i < n → pair_of (at_row i) ≡ x * 65536 + k → ⊥) → (i : ℕ) → i < n → names (at_row i) x k ≡ false
+    missing f i h = names_is (at_row i) x k small ∙ ne_eqb _ _ (f i h)
+
+    -- of labels
+    none_named : ((i : ℕ) → i < n → names (at_row i) x k ≡ false) → some_names g at n x k ≡ false
+    unfolding some_names
+    none_named f = some_miss n (λ i. names (at_row i) x k) f
+
+    one_named : (r : ℕ) → r < n → names (at_row r) x k ≡ true → some_names g at n x k ≡ true
+    unfolding some_names
+    one_named r h t = some_hit n r (λ i. names (at_row i) x k) h t
+
+    -- of properties
+    next_value : (m : ℕ) (c : Bool) → names (at_row m) x k ≡ c → value_of g at (suc m) x k ≡ (if c then some (value_in (at_row m)) else value_of g at m x k)
+    unfolding value_of
+    next_value m true h = rw (value_of, h)
+    next_value m false h = rw (value_of, h)
+
+    no_value : (m : ℕ) → m ≤ n → ((i : ℕ) → i < n → names (at_row i) x k ≡ false) → value_of g at m x k ≡ none
+    unfolding value_of
+    no_value zero l f = refl
+    no_value (suc m) l f = next_value m false (f m (omega arith)) ∙ no_value m (omega arith) f
+
+    the_value : (r : ℕ) → r < n → pair_of (at_row r) ≡ x * 65536 + k → (m : ℕ) → m ≤ n → r < m → value_of g at m x k ≡ some (value_in (at_row r))
+    the_value r i t zero l h = absurd (omega arith)
+    the_value r i t (suc m) l h = go (eqb m r) refl (the_value r i t m)
+      where
+        go : (c : Bool) → eqb m r ≡ c → (m ≤ n → r < m → value_of g at m x k ≡ some (value_in (at_row r))) → value_of g at (suc m) x k ≡ some (value_in (at_row r))
+        go true e ih = let z : m ≡ r = eqb-true m r e in rw z (next_value r true (names_is (at_row r) x k small ∙ eq-eqb _ _ t))
+        go false e ih =
+            let z : m ≢ r = eqb-false m r e in
+            let other : names (at_row m) x k ≡ false = names_is (at_row m) x k small ∙ ne_eqb _ _ (λ d. z (one_row m r (omega arith) i (d ∙ sym t))) in
+            next_value m false other ∙ ih (omega arith) (omega arith)
+
+    -- what `find` says of both
+    module _ (o : Option ℕ) (f : FoundBy at n g (x * 65536 + k) o) where
+      label_found : is_some o ≡ some_names g at n x k
+      label_found = go o refl
+        where
+          go : (p : Option ℕ) → o ≡ p → is_some p ≡ some_names g at n x k
+          go None e = sym (none_named (missing (f.none_has e)))
+          go (Some w) e =
+              let (i, h, is, its) = f.one_has w e in
+              sym (one_named i h (names_is (at_row i) x k small ∙ eq-eqb _ _ (ap pair_of (sym is) ∙ its)))
+
+      no_found : o ≡ None → none ≡ value_of g at n x k
+      no_found e = sym (no_value n (omega arith) (missing (f.none_has e)))
+
+      value_found : (w : ℕ) → o ≡ Some w → some (w % 17179869184) ≡ value_of g at n x k
+      value_found w e =
+          let (i, h, is, its) = f.one_has w e in
+          ap (λ (v : ℕ). some (value_in v)) is ∙ sym (the_value i h (ap pair_of (sym is) ∙ its) n (omega arith) h)
+
+-- ------------------------------------------------------------------ the ways out of `has_label` and `property`
+-- p is the pair that was looked for among n words, and o the word found
+module _ (g : List ℕ) (a : Lawful g) (x : Element) (k p n : ℕ) (o : Option ℕ) (small : k < 65536) (pair : p ≡ number_in g x * 65536 + k) where
+  pub label_is : n ≡ labels_in g → FoundBy 208 n g p o → is_some o ≡ (graph_in g).label x k
+  unfolding graph_in
+  label_is count f = label_found g 208 (labels_in g) a.labels_rise (number_in g x) k small o (rw (← pair, ← count) f)
+
+  module _ (count : n ≡ properties_in g) (f : FoundBy 1008 n g p o) where
+    its : FoundBy 1008 (properties_in g) g (number_in g x * 65536 + k) o
+    its = rw (← pair, ← count) f
+
+    pub value_absent : (r : Option ℕ) → o ≡ None → r ≡ None → values.value_of r ≡ (graph_in g).property x k
     unfolding graph_in
-    value_past h =
-        let s = properties_in g in
-        sym (no_value g 1008 s (number_in g x) k r a.properties_rise small this_bound s (omega arith) (miss_past g 1008 s (number_in g x) k r a.properties_rise small this_bound (omega arith)))
+    value_absent r e q = rw q (no_found g 1008 (properties_in g) a.properties_rise (number_in g x) k small o its e)
 
-    pub value_other : r < n → (w : ℕ) → w ≡ get_or g (1008 + r) 0 → (w / 17179869184 ≡ p → ⊥) → none ≡ (graph_in g).property x k
+    pub value_here : (w : ℕ) → o ≡ Some w → some (w % 17179869184) ≡ (graph_in g).property x k
     unfolding graph_in
-    value_other h w e q =
-        let s = properties_in g in
-        let z : pair_of (get_or g (1008 + r) 0) ≡ number_in g x * 65536 + k → ⊥ = λ d. q (ap pair_of e ∙ d ∙ sym pair) in
-        sym (no_value g 1008 s (number_in g x) k r a.properties_rise small this_bound s (omega arith) (miss_other g 1008 s (number_in g x) k r a.properties_rise small this_bound z))
-
-    pub value_here : r < n → (w : ℕ) → w ≡ get_or g (1008 + r) 0 → w / 17179869184 ≡ p → some (w % 17179869184) ≡ (graph_in g).property x k
-    unfolding graph_in
-    value_here h w e q =
-        let s = properties_in g in
-        let z : pair_of (get_or g (1008 + r) 0) ≡ number_in g x * 65536 + k = ap pair_of (sym e) ∙ q ∙ pair in
-        ap (λ (v : ℕ). some (value_in v)) e ∙ sym (the_value g 1008 s (number_in g x) k r a.properties_rise small this_bound s (omega arith) (omega arith) (hit g 1008 s (number_in g x) k r a.properties_rise small this_bound z))
+    value_here w e = value_found g 1008 (properties_in g) a.properties_rise (number_in g x) k small o its w e

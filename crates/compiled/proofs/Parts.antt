@@ -2,6 +2,7 @@
 use mathlib.Core.Path.{◌≡◌, refl, sym, ◌∙◌}
 use mathlib.Core.List.{List}
 use mathlib.Core.Bool.{Bool, false, not, true}
+use mathlib.Core.Logic.{◌⊎◌, inl, inr}
 use mathlib.Core.Option.{none}
 use Prim.Native.Nat.{ℕ, ◌+◌, ◌<◌, ◌≤◌, ◌%◌}
 use native.Mathlib.Omega.{arith}
@@ -31,13 +32,10 @@ module _ (p : List ℕ) (t : Tabled p) (j : ℕ) (h : j < length (table_in p)) w
   cell_small w e = rw e (t.small j (omega (arith, t.size)))
 
 module _ (p : List ℕ) (n : ℕ) (h : n ≡ get_or p 1 0) where
-  pub base_1 : n ≡ 1 → base_of Trail ≡ (restrictor_in p).base
+  pub base_trail : (n ≡ 1) ⊎ (n ≡ 3) → base_of Trail ≡ (restrictor_in p).base
   unfolding restrictor_in restrictor_of
-  base_1 e = rw (← h, e)
-
-  pub base_3 : n ≡ 3 → base_of Trail ≡ (restrictor_in p).base
-  unfolding restrictor_in restrictor_of
-  base_3 e = rw (← h, e)
+  base_trail (inl e) = rw (← h, e)
+  base_trail (inr e) = rw (← h, e)
 
   pub base_other : (n ≡ 1 → ⊥) → (n ≡ 3 → ⊥) → base_of Simple ≡ (restrictor_in p).base
   unfolding restrictor_in restrictor_of
@@ -47,13 +45,10 @@ module _ (p : List ℕ) (n : ℕ) (h : n ≡ get_or p 1 0) where
       go true = refl
       go false = refl
 
-  pub every_1 : n ≡ 1 → false ≡ (restrictor_in p).shortest
+  pub every_answer : (n ≡ 1) ⊎ (n ≡ 2) → false ≡ (restrictor_in p).shortest
   unfolding restrictor_in restrictor_of
-  every_1 e = rw (← h, e)
-
-  pub every_2 : n ≡ 2 → false ≡ (restrictor_in p).shortest
-  unfolding restrictor_in restrictor_of
-  every_2 e = rw (← h, e)
+  every_answer (inl e) = rw (← h, e)
+  every_answer (inr e) = rw (← h, e)
 
   pub shortest_other : (n ≡ 1 → ⊥) → (n ≡ 2 → ⊥) → true ≡ (restrictor_in p).shortest
   unfolding restrictor_in restrictor_of

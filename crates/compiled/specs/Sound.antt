@@ -1,5 +1,5 @@
 -- What is asked of the words of `graph` and `plan`: `fill_graph` and `fill_part` grant it.
-use Rattle.std.specs.Prelude.{◌≡◌, List, Bool, true, false, ℕ, ◌+◌, ◌<◌, ◌≤◌, get_or}
+use Rattle.std.specs.Prelude.{◌≡◌, List, Bool, true, false, ℕ, ◌+◌, ◌<◌, ◌≤◌, get_or, None, Option, Some}
 use Rattle.std.proofs.Math.Option.{none}
 use Rattle.meaning.specs.Table.{pattern_fault}
 use Rattle.compiled.specs.Words.{edge_in_lem, edges_in_lem, labels_in, nodes_in_lem, pair_of, properties_in}
@@ -14,6 +14,11 @@ pub record LowerBound (p : ℕ → Bool) (n r : ℕ) : Type 0 where
   pub within : r ≤ n
   pub before : (i : ℕ) → i < r → p i ≡ true
   pub after : (i : ℕ) → r ≤ i → i < n → p i ≡ false
+
+-- r is the word that has the pair, of the n words from `at` on
+pub record FoundBy (at n : ℕ) (g : List ℕ) (pair : ℕ) (r : Option ℕ) : Type 0 where
+  pub none_has : r ≡ None → (i : ℕ) → i < n → pair_of (get_or g (at + i) 0) ≡ pair → ⊥
+  pub one_has : (w : ℕ) → r ≡ Some w → (i : ℕ) × (i < n) × (w ≡ get_or g (at + i) 0) × (pair_of w ≡ pair)
 
 -- the graph is within the limits, its edges end at nodes, and its words rise
 pub record Lawful (g : List ℕ) : Type 0 where

@@ -1,9 +1,8 @@
 -- The answer to a question for a property.
-use Rattle.std.proofs.Math.Option.{Option, none, some}
-use Rattle.std.specs.Prelude.{ℕ}
-use Rattle.compiled.specs.declared.look.Value.{Value}
-use Rattle.compiled.specs.declared.look.Value.TheVariants.{Found, Absent}
+use Rattle.std.proofs.Math.Option as math
+use Rattle.std.proofs.Math.Option.{none, some}
+use Rattle.std.specs.Prelude.{ℕ, None, Option, Some}
 
-abbrev pub value_of : Value → Option ℕ
-value_of (Found v) = some v
-value_of Absent = none
+abbrev pub value_of : Option ℕ → math.Option ℕ
+value_of (Some v) = some v
+value_of None = none

@@ -18,11 +18,8 @@ fn fill_edges(image: &[u8], s: Sections, graph: &mut [u64])
     requires { Checked image.now s × (length graph.old ≡ graph_words) }
     ensures { Put 8 (EdgeWord image.now) s.edges.count graph.old graph.new }
 {
-    let mut i: usize = 0;
-    while i < s.edges.count {
-        let w = edge_word(image, s, i);
-        graph[EDGES + i] = w;
-        i += 1;
+    for i in 0..s.edges.count {
+        graph[EDGES + i] = edge_word(image, s, i);
     }
 }
 
@@ -30,11 +27,8 @@ fn fill_labels(image: &[u8], s: Sections, graph: &mut [u64])
     requires { Checked image.now s × (length graph.old ≡ graph_words) }
     ensures { Put 208 (LabelWord image.now) s.labels.count graph.old graph.new }
 {
-    let mut i: usize = 0;
-    while i < s.labels.count {
-        let w = label_word(image, s, i);
-        graph[LABELS + i] = w;
-        i += 1;
+    for i in 0..s.labels.count {
+        graph[LABELS + i] = label_word(image, s, i);
     }
 }
 
@@ -42,11 +36,8 @@ fn fill_properties(image: &[u8], s: Sections, graph: &mut [u64])
     requires { Checked image.now s × (length graph.old ≡ graph_words) }
     ensures { Put 1008 (PropertyWord image.now) s.properties.count graph.old graph.new }
 {
-    let mut i: usize = 0;
-    while i < s.properties.count {
-        let w = property_word(image, s, i);
-        graph[PROPERTIES + i] = w;
-        i += 1;
+    for i in 0..s.properties.count {
+        graph[PROPERTIES + i] = property_word(image, s, i);
     }
 }
 
@@ -69,11 +60,8 @@ fn fill_table(pattern: &[u16], plan: &mut [u64])
     requires { (length pattern.now ≤ 320) × (328 ≤ length plan.old) }
     ensures { Put 8 (TableWord pattern.now) (length pattern.now) plan.old plan.new }
 {
-    let mut i: usize = 0;
-    while i < pattern.len() {
-        let w = long(pattern[i]);
-        plan[TABLE + i] = w;
-        i += 1;
+    for (i, x) in pattern.iter().enumerate() {
+        plan[TABLE + i] = long(*x);
     }
 }
 

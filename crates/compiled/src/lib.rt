@@ -12,13 +12,12 @@ mod part;
 mod word;
 
 pub use derived::{
-    GRAPH_WORDS, PLAN_WORDS, leaving, lengths, onward, put_leaving, put_lengths, put_onward,
-    put_rows_against, put_rows_along, put_rows_of_node, put_watched, rows_against, rows_along,
-    rows_of_node, types_at, variables, watched,
+    Fit, GRAPH_WORDS, PLAN_WORDS, leaving, lengths, onward, put_leaving, put_lengths, put_onward,
+    put_rows_of, put_watched, rows_of, types_at, variables, watched,
 };
 pub use fill::{fill_graph, fill_part};
 pub use ids::{EdgeId, Element, NodeId};
 pub use look::{
-    Value, edges, first_end, has_label, is_directed, is_labelled, nodes, property, second_end,
+    edges, first_end, has_label, is_directed, is_labelled, nodes, property, second_end,
 };
 pub use part::{base_of, is_shortest, row_at, rows};

@@ -8,7 +8,7 @@ ghost use Rattle.compiled.specs.Words.{edge_in_lem, edges_in_lem, graph_in, labe
 ghost use Rattle.compiled.specs.Sound.{Lawful};
 ghost use Rattle.compiled.specs.Values.{value_of};
 
-use crate::find::{UNIT, lower_bound};
+use crate::find::{UNIT, find};
 use crate::ids::{EdgeId, Element, NodeId};
 use crate::word::{long, word};
 
@@ -84,13 +84,7 @@ pub fn has_label(graph: &[u64], x: Element, label: u16) -> bool
     ensures { result ≡ (graph_in graph.now).label (element_of x) label }
 {
     let pair = pair_of(graph, x, label);
-    let n = labels(graph);
-    let i = lower_bound(graph, LABELS, n, pair);
-    if n <= i {
-        return false;
-    }
-    let w = word(graph, LABELS + i);
-    w / UNIT == pair
+    find(graph, LABELS, labels(graph), pair).is_some()
 }
 
 // The element has the label, where one is asked for: 0 asks for none.
@@ -98,33 +92,15 @@ pub fn is_labelled(graph: &[u64], x: Element, label: u16) -> bool
     requires { Lawful graph.now }
     ensures { result ≡ labelled (graph_in graph.now) (element_of x) (unless 0 label) }
 {
-    if label == 0 {
-        return true;
-    }
-    has_label(graph, x, label)
+    label == 0 || has_label(graph, x, label)
 }
 
-// The value of a property, where the element has it: a word that only equality is asked of.
-#[derive(Clone, Copy)]
-pub enum Value {
-    Found(u64),
-    Absent,
-}
-
-// The property of the element under the key, found as a label is.
-pub fn property(graph: &[u64], x: Element, key: u16) -> Value
+// The property of the element under the key, found as a label is: a word that only equality is asked of.
+pub fn property(graph: &[u64], x: Element, key: u16) -> Option<u64>
     requires { Lawful graph.now }
     ensures { value_of result ≡ (graph_in graph.now).property (element_of x) key }
 {
     let pair = pair_of(graph, x, key);
-    let n = properties(graph);
-    let i = lower_bound(graph, PROPERTIES, n, pair);
-    if n <= i {
-        return Value::Absent;
-    }
-    let w = word(graph, PROPERTIES + i);
-    if w / UNIT != pair {
-        return Value::Absent;
-    }
-    Value::Found(w % UNIT)
+    let w = find(graph, PROPERTIES, properties(graph), pair)?;
+    Some(w % UNIT)
 }

@@ -38,23 +38,15 @@ pub fn row_at(plan: &[u64], i: usize) -> Row
     let q = cell(plan, at + 2);
     let r = cell(plan, at + 3);
     let s = cell(plan, at + 4);
-    Row {
-        kind: kind,
-        p: p,
-        q: q,
-        r: r,
-        s: s,
-    }
+    Row { kind, p, q, r, s }
 }
 
 // The base of the restrictor. The restrictor's number is decoded here alone.
 pub fn base_of(plan: &[u64]) -> Base
     ensures { base_of result ≡ (restrictor_in plan.now).base }
 {
-    let n = word(plan, 1);
-    match n {
-        1 => Base::Trail,
-        3 => Base::Trail,
+    match word(plan, 1) {
+        1 | 3 => Base::Trail,
         _ => Base::Simple,
     }
 }
@@ -63,10 +55,8 @@ pub fn base_of(plan: &[u64]) -> Base
 pub fn is_shortest(plan: &[u64]) -> bool
     ensures { result ≡ (restrictor_in plan.now).shortest }
 {
-    let n = word(plan, 1);
-    match n {
-        1 => false,
-        2 => false,
+    match word(plan, 1) {
+        1 | 2 => false,
         _ => true,
     }
 }

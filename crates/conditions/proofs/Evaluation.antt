@@ -1,4 +1,5 @@
 -- The ways out of the evaluation of a condition row.
+use Rattle.std.specs.declared.option.Option as maybe
 use mathlib.Core.Path.{◌≡◌, ap, ap₂, sym, ◌∙◌}
 use mathlib.Core.Bool.{◌&&◌, ◌||◌, not, true}
 use mathlib.Core.List.{List}
@@ -15,7 +16,7 @@ use Rattle.rows.specs.Faults.{Stands}
 use Rattle.rows.specs.Rows.{Reads}
 use Rattle.rows.specs.declared.row.Row.{Row}
 use Rattle.rows.proofs.Items.{item_and, item_constant, item_neg, item_or, item_property}
-use Rattle.conditions.specs.declared.bound.Binding.{Binding}
+use Rattle.compiled.specs.declared.ids.Element as code
 use Rattle.conditions.specs.declared.bound.Bound.{Bound}
 use Rattle.conditions.specs.declared.truth.Truths.{Truths}
 use Rattle.conditions.specs.Bound.{binding_of, bound_of}
@@ -25,7 +26,7 @@ use Rattle.conditions.proofs.Connectives.{false_decides, true_decides}
 use Rattle.conditions.proofs.ConditionRows.{and_first, and_second, condition_kind, constant_variable, first_variable_law, lower_item, not_row, or_first, or_second, second_variable}
 
 module _ (G : Graph) (pattern : List ℕ) (row : ℕ) (b : Bound) (r : Row) (d : Reads pattern row r) (st : Stands pattern row) (a : Truths) where
-  pub constant : r.kind ≡ 16 → (k : Binding) → binding_of k ≡ bound_of b r.p → truths_of a ≡ equality_truths (property_at_lem G (binding_of k) r.q) (some (some r.r))
+  pub constant : r.kind ≡ 16 → (k : maybe.Option code.Element) → binding_of k ≡ bound_of b r.p → truths_of a ≡ equality_truths (property_at_lem G (binding_of k) r.q) (some (some r.r))
       → Evaluates G pattern row b a
   unfolding truths
   constant e k ek h = record {
@@ -35,7 +36,7 @@ module _ (G : Graph) (pattern : List ℕ) (row : ℕ) (b : Bound) (r : Row) (d :
         h ∙ ap (λ (x : Option Element). equality_truths (property_at_lem G x r.q) (some (some r.r))) (ek ∙ s.is r.p low high) ∙ ap (truths G f v) z;
   }
 
-  pub properties : r.kind ≡ 17 → (k l : Binding) → binding_of k ≡ bound_of b r.p → binding_of l ≡ bound_of b r.r
+  pub properties : r.kind ≡ 17 → (k l : maybe.Option code.Element) → binding_of k ≡ bound_of b r.p → binding_of l ≡ bound_of b r.r
       → truths_of a ≡ equality_truths (property_at_lem G (binding_of k) r.q) (property_at_lem G (binding_of l) r.s) → Evaluates G pattern row b a
   unfolding truths
   properties e k l ek el h = record {

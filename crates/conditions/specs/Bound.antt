@@ -1,32 +1,28 @@
 -- The elements of the variables, as far as they are known.
-use Rattle.std.specs.Prelude.{◌≡◌, ℕ, ◌<◌, ◌≤◌, get_or}
-use Rattle.std.proofs.Math.Option.{Option, none, some}
+use Rattle.std.specs.Prelude.{◌≡◌, ℕ, ◌<◌, ◌≤◌, get_or, None, Option, Some}
+use Rattle.std.proofs.Math.Option as math
+use Rattle.std.proofs.Math.Option.{none, some}
 use Rattle.compiled.specs.Elements.{element_of}
+use Rattle.compiled.specs.declared.ids.Element as code
 use Rattle.matcher.specs.Conditions.{element_at_lem}
 use Rattle.matcher.specs.Views.{View, first_known_lem}
 use Rattle.meaning.specs.Graph.{Element}
 use Rattle.meaning.specs.Typing.{Found}
-use Rattle.conditions.specs.declared.bound.Binding.{Binding}
-use Rattle.conditions.specs.declared.bound.Binding.TheVariants.{Unknown, To}
-use Rattle.conditions.specs.declared.bound.Slot.{Slot}
 use Rattle.conditions.specs.declared.bound.Bound.{Bound}
 
-abbrev pub binding_of : Binding → Option Element
-binding_of Unknown = none
-binding_of (To x) = some (element_of x)
+abbrev pub binding_of : Option code.Element → math.Option Element
+binding_of None = none
+binding_of (Some x) = some (element_of x)
 
-abbrev pub no_slot : Slot
-no_slot = record { binding = Unknown }
-
-unfoldable pub bound_of : Bound → ℕ → Option Element
-bound_of b x = binding_of (get_or b.slots x no_slot).binding
+unfoldable pub bound_of : Bound → ℕ → math.Option Element
+bound_of b x = binding_of (get_or b.slots x None)
 
 -- nothing is known
 pub record Unbound (b : Bound) : Type 0 where
   pub is : (x : ℕ) → bound_of b x ≡ none
 
 -- r is b but for the binding of x
-pub record Rebound (b : Bound) (x : ℕ) (k : Binding) (r : Bound) : Type 0 where
+pub record Rebound (b : Bound) (x : ℕ) (k : Option code.Element) (r : Bound) : Type 0 where
   pub here : bound_of r x ≡ binding_of k
   pub other : (y : ℕ) → (y ≡ x → ⊥) → bound_of r y ≡ bound_of b y
 

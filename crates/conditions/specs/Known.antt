@@ -1,11 +1,11 @@
 -- The elements of the variables, from known words. ks are the known words of a record, and a place past them is not known.
-use Rattle.std.specs.Prelude.{◌≡◌, List, ℕ, ◌<◌, ◌≤◌, get_or}
+use Rattle.std.specs.Prelude.{◌≡◌, List, Option, ℕ, ◌<◌, ◌≤◌, get_or}
 use Rattle.std.proofs.Math.Option.{none}
 use Rattle.matcher.specs.Conditions.{element_at_lem, element_of}
 use Rattle.matcher.specs.Views.{View, first_known_lem}
 use Rattle.matcher.proofs.Places.{view_at}
 use Rattle.meaning.specs.Typing.{Edge, Found, Node, typed}
-use Rattle.conditions.specs.declared.bound.Binding.{Binding}
+use Rattle.compiled.specs.declared.ids.Element.{Element}
 use Rattle.conditions.specs.declared.bound.Bound.{Bound}
 use Rattle.conditions.specs.Bound.{Binds, binding_of}
 
@@ -17,11 +17,11 @@ pub record Codes (code : ℕ) (f : Found) : Type 0 where
 
 -- ------------------------------------------------------------------ answers
 -- r is the element that the word w is
-pub record BindsWord (code w : ℕ) (r : Binding) : Type 0 where
+pub record BindsWord (code w : ℕ) (r : Option Element) : Type 0 where
   pub is : (f : Found) → Codes code f → binding_of r ≡ element_of f w
 
 -- r is the element of the value at place, where its word is known
-pub record BindsAt (ks : List ℕ) (code place : ℕ) (r : Binding) : Type 0 where
+pub record BindsAt (ks : List ℕ) (code place : ℕ) (r : Option Element) : Type 0 where
   pub is : (f : Found) → Codes code f → binding_of r ≡ element_at_lem f (first_known_lem (view_at ks place))
 
 abbrev pub views_at : List ℕ → List ℕ → View

@@ -4,23 +4,10 @@ ghost use Rattle.conditions.specs.Bound.{binding_of, bound_of, Unbound, Rebound}
 
 use compiled::Element;
 
-// What is known of a variable's element.
-#[derive(Clone, Copy)]
-pub enum Binding {
-    Unknown,
-    To(Element),
-}
-
-// A binding in a struct, since an array of enums is not had in a struct.
-#[derive(Clone, Copy)]
-pub struct Slot {
-    pub binding: Binding,
-}
-
-// Slot 0 is no variable's.
+// What is known of the element of each variable: slot 0 is no variable's.
 #[derive(Clone, Copy)]
 pub struct Bound {
-    pub slots: [Slot; 9],
+    pub slots: [Option<Element>; 9],
 }
 
 impl Bound {
@@ -28,28 +15,23 @@ impl Bound {
     pub fn unknown() -> Self
         ensures { Unbound result }
     {
-        let s = Slot {
-            binding: Binding::Unknown,
-        };
-        Bound { slots: [s; 9] }
+        Bound { slots: [None; 9] }
     }
 
     // What is known of x.
-    pub fn of(self, x: usize) -> Binding
+    pub fn of(self, x: usize) -> Option<Element>
         requires { x < 9 }
         ensures { binding_of result ≡ bound_of self x }
     {
-        let s = self.slots[x];
-        s.binding
+        self.slots[x]
     }
 
-    // These bindings, with that of x put anew.
-    pub fn with(self, x: usize, binding: Binding) -> Self
+    // These elements, with what is known of x put anew.
+    pub fn with(mut self, x: usize, known: Option<Element>) -> Self
         requires { x < 9 }
-        ensures { Rebound self x binding result }
+        ensures { Rebound self x known result }
     {
-        let mut b = self;
-        b.slots[x] = Slot { binding: binding };
-        b
+        self.slots[x] = known;
+        self
     }
 }

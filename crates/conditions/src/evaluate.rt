@@ -11,7 +11,8 @@ use crate::truth::{Truths, any_truth, conjoined, disjoined, negated};
 use compiled::row_at;
 
 // The truth values that the row's condition can still have, with some elements not known yet. Of and, or the right-hand part comes first
-// (02, Q-4): where it is false for and, true for or, and can be nothing else, the left-hand part is not looked at.
+// (02, Q-4): where it is false for and, true for or, and can be nothing else, the left-hand part is not looked at. The two arms mirror each
+// other, with true and false exchanged; one arm for both would have to exchange them by a parameter.
 pub fn condition(graph: &[u64], plan: &[u64], row: usize, b: Bound) -> Truths
     requires lawful { Lawful graph.now }
     requires tabled { Tabled plan.now × Stands (table_in plan.now) row }

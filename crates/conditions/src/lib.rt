@@ -8,7 +8,7 @@ mod known;
 mod property;
 mod truth;
 
-pub use bound::{Binding, Bound, Slot};
+pub use bound::Bound;
 pub use evaluate::condition;
 pub use known::bound_by;
 pub use truth::{Truths, may_hold};

@@ -10,11 +10,11 @@ ghost use Rattle.conditions.specs.Bound.{binding_of};
 ghost use Rattle.conditions.specs.Property.{known_of};
 ghost use Rattle.conditions.specs.Truths.{truths_of};
 
-use crate::bound::Binding;
 use crate::truth::{Truths, any_truth, decided, unknown};
-use compiled::Value;
+use compiled::Element;
 
-// A property's value as far as it is known.
+// A property's value as far as it is known: that its element is open and that it is absent have names here, as `Option<Option<u64>>`
+// would not give them.
 #[derive(Clone, Copy)]
 pub enum Property {
     Open,
@@ -23,15 +23,15 @@ pub enum Property {
 }
 
 // The property of an element that may not be known.
-fn property_at(graph: &[u64], x: Binding, key: u16) -> Property
+fn property_at(graph: &[u64], x: Option<Element>, key: u16) -> Property
     requires { Lawful graph.now }
     ensures { known_of result ≡ property_at_lem (graph_in graph.now) (binding_of x) key }
 {
     match x {
-        Binding::Unknown => Property::Open,
-        Binding::To(e) => match compiled::property(graph, e, key) {
-            Value::Found(w) => Property::Found(w),
-            Value::Absent => Property::Absent,
+        None => Property::Open,
+        Some(e) => match compiled::property(graph, e, key) {
+            Some(w) => Property::Found(w),
+            None => Property::Absent,
         },
     }
 }
@@ -55,15 +55,14 @@ fn equal(a: Property, b: Property) -> Truths
         Property::Found(w) => equals_value(a, w),
         Property::Absent => unknown(),
         Property::Open => match a {
-            Property::Open => any_truth(),
             Property::Absent => unknown(),
-            Property::Found(_) => any_truth(),
+            _ => any_truth(),
         },
     }
 }
 
 // Kind 16.
-pub fn equal_constant(graph: &[u64], x: Binding, key: u16, w: u64) -> Truths
+pub fn equal_constant(graph: &[u64], x: Option<Element>, key: u16, w: u64) -> Truths
     requires { Lawful graph.now }
     ensures { truths_of result ≡ equality_truths (property_at_lem (graph_in graph.now) (binding_of x) key) (some (some w)) }
 {
@@ -71,7 +70,13 @@ pub fn equal_constant(graph: &[u64], x: Binding, key: u16, w: u64) -> Truths
 }
 
 // Kind 17.
-pub fn equal_properties(graph: &[u64], x: Binding, key: u16, y: Binding, other: u16) -> Truths
+pub fn equal_properties(
+    graph: &[u64],
+    x: Option<Element>,
+    key: u16,
+    y: Option<Element>,
+    other: u16,
+) -> Truths
     requires { Lawful graph.now }
     ensures { truths_of result ≡ equality_truths (property_at_lem (graph_in graph.now) (binding_of x) key) (property_at_lem (graph_in graph.now) (binding_of y) other) }
 {

@@ -6,5 +6,5 @@ use Rattle.conditions.proofs.known.binding_at.Goals as goal
 pub returns-then-place-known : goal.returns-then-place-known
 returns-then-place-known c = search (at_known, arith)
 
-pub returns : goal.returns
-returns c = search (at_unknown, arith)
+pub returns-else-place-known : goal.returns-else-place-known
+returns-else-place-known c = search (at_unknown, arith)

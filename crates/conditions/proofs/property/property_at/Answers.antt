@@ -3,11 +3,11 @@ use Rattle.conditions.proofs.Properties.{property_absent, property_found, proper
 use native.Mathlib.Omega.{arith}
 use Rattle.conditions.proofs.property.property_at.Goals as goal
 
-pub returns-in-Unknown : goal.returns-in-Unknown
-returns-in-Unknown c = search (property_open, arith)
+pub returns-in-None : goal.returns-in-None
+returns-in-None c = search (property_open, arith)
 
-pub returns-in-Found : goal.returns-in-Found
-returns-in-Found c = search (property_found, arith)
+pub returns-in-Some-property : goal.returns-in-Some-property
+returns-in-Some-property c = search (property_found, arith)
 
-pub returns-in-Absent : goal.returns-in-Absent
-returns-in-Absent c = search (property_absent, arith)
+pub returns-in-None-property : goal.returns-in-None-property
+returns-in-None-property c = search (property_absent, arith)

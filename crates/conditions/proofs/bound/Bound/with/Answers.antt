@@ -6,4 +6,4 @@ use borrow.Author.Rules.{rules}
 use Rattle.conditions.proofs.bound.Bound.with.Goals as goal
 
 pub returns : goal.returns
-returns c = let l : length c.args.self.slots ≡ 9 = search (length_mapped, rules) in rebound c.args.self c.args.x c.args.binding l (search rules)
+returns c = let l : length c.args.self.slots ≡ 9 = search (length_mapped, rules) in rebound c.args.self c.args.x c.args.known l (search rules)
