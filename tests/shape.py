@@ -49,7 +49,7 @@ def main():
         text = path.read_text(encoding="utf-8")
         for name, parameters, lines, body in functions(text):
             place = "%s: %s" % (path, name)
-            for parameter in (re.sub(r"^mut ", "", p).split(":")[0] for p in parameters):
+            for parameter in (re.sub(r"^(mut |&mut |&)", "", p).split(":")[0] for p in parameters):
                 if not re.search(r"\b%s\b" % parameter, body):
                     rules[titles[4]].append("%s, %s" % (place, parameter))
             if len(parameters) > MANY_PARAMETERS:

@@ -25,8 +25,7 @@ pub fn nothing() -> [u8; 16]
 fn put_number(image: &mut [u8; 418], at: usize, number: usize)
     requires { (at + 2 ≤ 418) × (number ≤ 65535) }
 {
-    image[at] = (number % 256) as u8;
-    image[at + 1] = (number / 256) as u8;
+    image[at..at + 2].copy_from_slice(&(number as u16).to_le_bytes());
 }
 
 // Up to 201 nodes, with outer numbers from 0 on, and nothing else.
@@ -39,9 +38,7 @@ pub fn only_nodes(image: &mut [u8; 418], nodes: usize)
     put_number(image, 4, end);
     put_number(image, 8, end);
     put_number(image, 12, end);
-    let mut i: usize = 0;
-    while i < nodes {
+    for i in 0..nodes {
         put_number(image, 16 + 2 * i, i);
-        i += 1;
     }
 }

@@ -39,11 +39,7 @@ fn put_row(pattern: &mut [u16; 325], row: usize, kind: u16, p: u16, q: u16, r: u
     requires { row < 65 }
 {
     let at = 5 * row;
-    pattern[at] = kind;
-    pattern[at + 1] = p;
-    pattern[at + 2] = q;
-    pattern[at + 3] = r;
-    pattern[at + 4] = 0;
+    pattern[at..at + 5].copy_from_slice(&[kind, p, q, r, 0]);
 }
 
 // A node under a condition that is denied again and again, so that the table has just as many rows as are asked for.
@@ -53,10 +49,8 @@ pub fn denied(pattern: &mut [u16; 325], rows: usize)
     put_row(pattern, 0, 1, 1, 0, 0);
     put_row(pattern, 1, 16, 1, 7, 5);
     let last = rows - 1;
-    let mut row: usize = 2;
-    while row < last {
+    for row in 2..last {
         put_row(pattern, row, 20, (row - 1) as u16, 0, 0);
-        row += 1;
     }
     put_row(pattern, last, 7, 0, (last - 1) as u16, 0);
 }

@@ -10,14 +10,6 @@ ghost use Rattle.listing.specs.Words.{WordsRead};
 use std::io;
 use std::io::Read;
 
-// The lesser of two.
-fn least(a: usize, b: usize) -> usize
-    ensures bound { (result ≤ a) × (result ≤ b) }
-    ensures value { result ≡ min a b }
-{
-    if a < b { a } else { b }
-}
-
 // Reads until the bytes are full or the input ends, and gives how many there were. Of a reader whose bytes are known they are the
 // next ones, and where they are fewer than there is room for, the last.
 pub fn read_full<R: Read>(input: &mut R, bytes: &mut [u8]) -> io::Result<usize>
@@ -27,6 +19,7 @@ pub fn read_full<R: Read>(input: &mut R, bytes: &mut [u8]) -> io::Result<usize>
     ensures end { IfOk result (λ n. n < length bytes.new → IsAtEnd (R.remaining input.new)) }
     ensures err { OnErr result (length bytes.new ≡ length bytes.old) }
 {
+    // by hand: the step is not 1, it is the number of bytes that came
     let mut done: usize = 0;
     while done < bytes.len() {
         let count = input.read(&mut bytes[done..])?;
@@ -47,8 +40,8 @@ fn read<R: Read>(input: &mut R, bytes: &mut [u8], n: usize) -> io::Result<usize>
         IsAtEnd (R.remaining input.new)) }
     ensures err { OnErr result (length bytes.new ≡ length bytes.old) }
 {
-    let most = least(n, bytes.len());
-    read_full(input, &mut bytes[0..most])
+    let most = n.min(bytes.len());
+    read_full(input, &mut bytes[..most])
 }
 
 // The third number of the head.
@@ -78,10 +71,8 @@ fn take_words(words: &mut [u16], bytes: &[u8], count: usize)
     ensures within { count ≤ length words.new }
     ensures each { (i : ℕ) → i < count → slice_index words.new i ≡ number bytes.now (2 * i) }
 {
-    let mut i: usize = 0;
-    while i < count {
+    for i in 0..count {
         words[i] = words::number_at(bytes, 2 * i);
-        i += 1;
     }
 }
 
@@ -98,7 +89,7 @@ pub fn read_pattern<R: Read>(
     ensures err { OnErr result (pattern.new ≡ pattern.old) }
 {
     let mut bytes = [0u8; 642];
-    let most = least(words::size_at(head, 2), 321);
+    let most = words::size_at(head, 2).min(321);
     let count = read(input, &mut bytes, 2 * most)? / 2;
     take_words(pattern, &bytes, count);
     Ok(count)

@@ -91,7 +91,7 @@ pub record Factors (left : ℕ) (t : List ℕ) (k : ℕ) (w : List ℕ) (at fact
   pub is : (τ : Ty) → TypeAt τ t k → length (ty_words τ) ≤ left → min (end + group_size_lem (value_size_lem τ) factors (drop end w)) (length w) ≡ min (at + value_size_lem (Group τ) (drop at w)) (length w)
   pub within : (end ≤ length w) × (min at (length w) ≤ end)
 
-pub factors_start : (left : ℕ) (t : List ℕ) (k : ℕ) (w : List ℕ) (at x end : ℕ) → x ≡ get_or w at 0 → Forward w at 1 end → Factors left t k w at x end
+factors_start : (left : ℕ) (t : List ℕ) (k : ℕ) (w : List ℕ) (at x end : ℕ) → x ≡ get_or w at 0 → Forward w at 1 end → Factors left t k w at x end
 unfolding value_size_lem
 factors_start left t k w at x end e h = record { is = is; within = (omega (arith, h), omega (arith, h)) }
   where
@@ -122,16 +122,27 @@ factor_on f w end e₁ e₂ n h₁ h₂ =
     let rest : group_size_lem f n (drop m u) ≡ group_size_lem f n (drop (end + m) w) = ap (group_size_lem f n) (drop-drop m end w) in
     on₂ ∙ ap (λ (c : ℕ). min c (length w)) (sum_of end m _ _ rest)
 
-pub factors_more : (left : ℕ) (t : List ℕ) (k : ℕ) (w : List ℕ) (at factors end e₁ e₂ : ℕ) → 0 < factors → Factors left t k w at factors end → PathEnd w end e₁ → ValueEnd left t k w e₁ e₂ → Factors left t k w at (factors - 1) e₂
-factors_more left t k w at zero end e₁ e₂ z i p v = absurd (omega arith)
-factors_more left t k w at (suc n) end e₁ e₂ z i p v =
-    let e : suc n - 1 ≡ n = omega arith in
-    record { is = λ τ a l. ap (λ (c : ℕ). min (e₂ + group_size_lem (value_size_lem τ) c (drop e₂ w)) (length w)) e ∙ (factor_on (value_size_lem τ) w end e₁ e₂ n p.is (v.is τ a l) ∙ i.is τ a l); within = (v.within.0, omega (arith, v.within.0, v.within.1, p.within.0, p.within.1, i.within.0, i.within.1)) }
+one_more : (left : ℕ) (t : List ℕ) (k : ℕ) (w : List ℕ) (at n end e₁ e₂ : ℕ) → Factors left t k w at (suc n) end → PathEnd w end e₁ → ValueEnd left t k w e₁ e₂ → Factors left t k w at n e₂
+one_more left t k w at n end e₁ e₂ i p v =
+    record { is = λ τ a l. factor_on (value_size_lem τ) w end e₁ e₂ n p.is (v.is τ a l) ∙ i.is τ a l; within = (v.within.0, omega (arith, v.within.0, v.within.1, p.within.0, p.within.1, i.within.0, i.within.1)) }
 
-pub factors_done : (left : ℕ) (t : List ℕ) (k : ℕ) (w : List ℕ) (at factors end : ℕ) → factors ≤ 0 → Factors left t k w at factors end → GroupEnd left t k w at end
+-- the next of them, the factor i of so many
+pub factors_more : (left : ℕ) (t : List ℕ) (k : ℕ) (w : List ℕ) (at factors i end e₁ e₂ : ℕ) → i < factors → Factors left t k w at (factors - i) end → PathEnd w end e₁ → ValueEnd left t k w e₁ e₂ → Factors left t k w at (factors - (i + 1)) e₂
+factors_more left t k w at factors i end e₁ e₂ l f p v =
+    let more : factors - i ≡ suc (factors - (i + 1)) = omega arith in
+    one_more left t k w at (factors - (i + 1)) end e₁ e₂ (rw (← more) f) p v
+
+factors_done : (left : ℕ) (t : List ℕ) (k : ℕ) (w : List ℕ) (at factors end : ℕ) → factors ≤ 0 → Factors left t k w at factors end → GroupEnd left t k w at end
 unfolding group_size_lem
 factors_done left t k w at zero end z i = record { is = λ τ a l. omega (arith, i.is τ a l, i.within.0); within = i.within }
 factors_done left t k w at (suc n) end z i = absurd (omega arith)
+
+-- all of them are left, and none
+pub factors_all : (left : ℕ) (t : List ℕ) (k : ℕ) (w : List ℕ) (at x end : ℕ) → x ≡ get_or w at 0 → Forward w at 1 end → Factors left t k w at (x - 0) end
+factors_all left t k w at x end e h = let i : x - 0 ≡ x = omega arith in rw i (factors_start left t k w at x end e h)
+
+pub factors_none : (left : ℕ) (t : List ℕ) (k : ℕ) (w : List ℕ) (at factors i end : ℕ) → factors ≤ i → Factors left t k w at (factors - i) end → GroupEnd left t k w at end
+factors_none left t k w at factors i end l f = factors_done left t k w at (factors - i) end (omega arith) f
 
 pub factors_past : (left : ℕ) (t : List ℕ) (k : ℕ) (w : List ℕ) (at factors end : ℕ) → length w ≤ end → Factors left t k w at factors end → GroupEnd left t k w at end
 factors_past left t k w at factors end z i = record { is = λ τ a l. omega (arith, i.is τ a l, i.within.0, z); within = i.within }
@@ -162,11 +173,10 @@ variable_value i t w at x r e z h v = record { is = is; within = (v.within.0, om
 pub record Variables (t w : List ℕ) (at i end : ℕ) : Type 0 where
   pub is : (f : ℕ → Found) → TypesAt f t → min (end + variables_size_lem f (drop i eight) (drop end w)) (length w) ≡ min (at + record_size_lem f (drop at w)) (length w)
   pub within : (end ≤ length w) × (min (at + 1) (length w) ≤ end)
-  pub bound : i ≤ 8
 
 pub variables_start : (t w : List ℕ) (at end : ℕ) → PathEnd w at end → Variables t w at 0 end
 unfolding record_size_lem
-variables_start t w at end p = record { is = is; within = p.within; bound = omega arith }
+variables_start t w at end p = record { is = is; within = p.within }
   where
     is : (f : ℕ → Found) → TypesAt f t → min (end + variables_size_lem f eight (drop end w)) (length w) ≡ min (at + record_size_lem f (drop at w)) (length w)
     is f a =
@@ -193,7 +203,7 @@ variable_on f x xs w end e₁ h =
     forward_on (variables_size_lem f xs) w end s e₁ h ∙ ap (λ (c : ℕ). min c (length w)) (sum_of end s _ _ (ap (variables_size_lem f xs) (drop-drop s end w)))
 
 pub variables_more : (t w : List ℕ) (at i end e₁ : ℕ) → i < 8 → Variables t w at i end → VariableEnd i t w end e₁ → Variables t w at (i + 1) e₁
-variables_more t w at i end e₁ h v o = record { is = is; within = (o.within.0, omega (arith, o.within.1, v.within.1)); bound = omega arith }
+variables_more t w at i end e₁ h v o = record { is = is; within = (o.within.0, omega (arith, o.within.1, v.within.1)) }
   where
     is : (f : ℕ → Found) → TypesAt f t → min (e₁ + variables_size_lem f (drop (i + 1) eight) (drop e₁ w)) (length w) ≡ min (at + record_size_lem f (drop at w)) (length w)
     is f a =
@@ -205,7 +215,5 @@ none_left : (f : ℕ → Found) (i : ℕ) (u : List ℕ) → i ≡ 8 → variabl
 unfolding eight variables_size_lem
 none_left f i u e = ap (λ (j : ℕ). variables_size_lem f (drop j eight) u) e
 
-pub variables_done : (t w : List ℕ) (at i end : ℕ) → 8 ≤ i → Variables t w at i end → RecordEnd t w at end
-variables_done t w at i end h v =
-    let e : i ≡ 8 = omega (arith, h, v.bound) in
-    record { is = λ f a. omega (arith, v.is f a, none_left f i (drop end w) e, v.within.0); within = v.within }
+pub variables_done : (t w : List ℕ) (at i end : ℕ) → i ≡ 8 → Variables t w at i end → RecordEnd t w at end
+variables_done t w at i end e v = record { is = λ f a. omega (arith, v.is f a, none_left f i (drop end w) e, v.within.0); within = v.within }

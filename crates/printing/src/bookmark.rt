@@ -8,6 +8,7 @@ use crate::record_ends::record_end;
 fn last_record(types: &[u16], words: &[u16]) -> usize
     ensures { LastRecord types.now words.now result }
 {
+    // by hand: the step is not 1, it is the length of the record just read
     let mut last: usize = 0;
     let mut at: usize = 0;
     while at < words.len() {

@@ -2,66 +2,58 @@
 ghost use Rattle.std.specs.Prelude.{◌≤◌, length};
 
 use crate::record_ends::record_end;
-use crate::text::{Buffer, put_byte, put_number, put_text};
+use crate::text::Text;
 use std::io;
 use words::wide;
 
 // The words parted by spaces, and the line's end.
-fn put_record(rt: &impl Print, out: &mut Buffer, n: usize, words: &[u16]) -> io::Result<usize> {
-    let mut end = n;
-    let mut i: usize = 0;
-    while i < words.len() {
+fn put_record(rt: &impl Print, out: &mut Text, words: &[u16]) -> io::Result<()> {
+    for (i, word) in words.iter().enumerate() {
         if 0 < i {
-            end = put_byte(rt, out, end, b' ')?;
+            out.put_byte(rt, b' ')?;
         }
-        end = put_number(rt, out, end, wide(words[i]) as u64)?;
-        i += 1;
+        out.put_number(rt, wide(*word) as u64)?;
     }
-    put_byte(rt, out, end, b'\n')
+    out.put_byte(rt, b'\n')
 }
 
 // Each record on a line.
-fn put_records(
-    rt: &impl Print,
-    out: &mut Buffer,
-    types: &[u16],
-    words: &[u16],
-) -> io::Result<usize> {
-    let mut end: usize = 0;
+fn put_records(rt: &impl Print, out: &mut Text, types: &[u16], words: &[u16]) -> io::Result<()> {
+    // by hand: the step is not 1, it is the length of the record just read
     let mut at: usize = 0;
     while at < words.len() {
         let next = record_end(types, words, at);
-        end = put_record(rt, out, end, &words[at..next])?;
+        put_record(rt, out, &words[at..next])?;
         at = next;
     }
-    Ok(end)
+    Ok(())
 }
 
 // The records of a page of which some words are used.
 pub fn put_page(
     rt: &impl Print,
-    out: &mut Buffer,
+    out: &mut Text,
     types: &[u16],
     page: &[u16],
     used: usize,
-) -> io::Result<usize>
+) -> io::Result<()>
     requires { used ≤ length page.now }
 {
     put_records(rt, out, types, &page[0..used])
 }
 
 // The last line of a listing.
-pub fn put_done(rt: &impl Print, out: &mut Buffer, count: u64) -> io::Result<usize> {
-    let mut end = put_text(rt, out, 0, b"done ")?;
-    end = put_number(rt, out, end, count)?;
-    put_byte(rt, out, end, b'\n')
+pub fn put_done(rt: &impl Print, out: &mut Text, count: u64) -> io::Result<()> {
+    out.put_bytes(rt, b"done ")?;
+    out.put_number(rt, count)?;
+    out.put_byte(rt, b'\n')
 }
 
 // The line of a refused call.
-pub fn put_refusal(rt: &impl Print, out: &mut Buffer, number: u64, row: u64) -> io::Result<usize> {
-    let mut end = put_text(rt, out, 0, b"refused ")?;
-    end = put_number(rt, out, end, number)?;
-    end = put_text(rt, out, end, b" row ")?;
-    end = put_number(rt, out, end, row)?;
-    put_byte(rt, out, end, b'\n')
+pub fn put_refusal(rt: &impl Print, out: &mut Text, number: u64, row: u64) -> io::Result<()> {
+    out.put_bytes(rt, b"refused ")?;
+    out.put_number(rt, number)?;
+    out.put_bytes(rt, b" row ")?;
+    out.put_number(rt, row)?;
+    out.put_byte(rt, b'\n')
 }

@@ -9,7 +9,7 @@ use crate::bookmark::take_mark;
 use crate::lines::{put_done, put_page, put_refusal};
 use crate::one_part::{MOST_WORDS, query_of};
 use crate::report::{number_of, used_of};
-use crate::text::{Buffer, flush};
+use crate::text::Text;
 use crate::types::put_types;
 use gpc::{gpc_check_query, gpc_fill_page};
 use records::Record;
@@ -53,15 +53,15 @@ fn fill_next(image: &[u8], query: &[u16], types: &[u16; 72], page: &mut Words, r
 // Prints the records of a page.
 fn print_page(
     rt: &impl Print,
-    out: &mut Buffer,
+    out: &mut Text,
     types: &[u16; 72],
     page: &Words,
     report: &Report,
 ) -> io::Result<()>
     requires { reported 3 report.now ≤ 20000 }
 {
-    let end = put_page(rt, out, types, page, used_of(report))?;
-    flush(rt, out, end)
+    put_page(rt, out, types, page, used_of(report))?;
+    out.flush(rt)
 }
 
 // Prints the first page, which is filled already, and the pages after it, each before the next is looked for; and gives the count
@@ -69,7 +69,7 @@ fn print_page(
 // there is a last one. An error is that of a write, and leaves the page that was being printed, which is the last of a run so far.
 fn print_pages(
     rt: &impl Print,
-    out: &mut Buffer,
+    out: &mut Text,
     image: &[u8],
     query: &[u16],
     types: &[u16; 72],
@@ -104,23 +104,23 @@ fn types_of(query: &[u16]) -> [u16; 72]
 // Prints the types and the pages, and puts the last line.
 fn put_listing(
     rt: &impl Print,
-    out: &mut Buffer,
+    out: &mut Text,
     image: &[u8],
     query: &[u16],
     page: &mut Words,
     report: &mut Report,
-) -> io::Result<usize>
+) -> io::Result<()>
     requires { OnePart query.now × First image.now query.now page.old report.old }
 {
     let types = types_of(query);
-    let end = put_types(rt, out, &types)?;
-    flush(rt, out, end)?;
+    put_types(rt, out, &types)?;
+    out.flush(rt)?;
     let count = print_pages(rt, out, image, query, &types, page, report)?;
     put_done(rt, out, count)
 }
 
 // Puts why a call was refused, or its page and those after it.
-fn put_answer(rt: &impl Print, out: &mut Buffer, image: &[u8], query: &[u16]) -> io::Result<usize>
+fn put_answer(rt: &impl Print, out: &mut Text, image: &[u8], query: &[u16]) -> io::Result<()>
     requires { OnePart query.now }
 {
     let mut page = [0u16; Record::WORK];
@@ -136,11 +136,11 @@ fn put_answer(rt: &impl Print, out: &mut Buffer, image: &[u8], query: &[u16]) ->
 // The same for a pattern and a restrictor, as the words of a query of one part.
 fn put_pattern(
     rt: &impl Print,
-    out: &mut Buffer,
+    out: &mut Text,
     image: &[u8],
     pattern: &[u16],
     restrictor: u16,
-) -> io::Result<usize>
+) -> io::Result<()>
     requires { length pattern.now ≤ 325 }
 {
     let mut query = [0u16; MOST_WORDS];
@@ -158,7 +158,7 @@ pub fn print_listing(
 ) -> io::Result<()>
     requires { length pattern.now ≤ 325 }
 {
-    let mut out: Buffer = [0; 65536];
-    let end = put_pattern(rt, &mut out, image, pattern, restrictor)?;
-    flush(rt, &out, end)
+    let mut out = Text::new();
+    put_pattern(rt, &mut out, image, pattern, restrictor)?;
+    out.flush(rt)
 }

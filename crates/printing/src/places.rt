@@ -7,18 +7,12 @@ use words::wide;
 pub fn word_at(words: &[u16], at: usize) -> usize
     ensures { (result ≡ slice_index words.now at) × (result < 65536) }
 {
-    if at < words.len() { wide(words[at]) } else { 0 }
+    wide(words.get(at).copied().unwrap_or(0))
 }
 
 // The place n words on, or the end where there are fewer.
 pub fn forward(words: &[u16], at: usize, n: usize) -> usize
     ensures { result ≡ min (at + n) (length words.now) }
 {
-    if words.len() <= at {
-        return words.len();
-    }
-    if words.len() - at <= n {
-        return words.len();
-    }
-    at + n
+    at.saturating_add(n).min(words.len())
 }

@@ -39,16 +39,15 @@ fn group_end(left: usize, types: &[u16], kind: usize, words: &[u16], at: usize) 
     requires { kind + left ≤ 48 }
     ensures { GroupEnd left types.now kind words.now at result }
 {
-    let mut factors = word_at(words, at);
+    let factors = word_at(words, at);
     let mut end = forward(words, at, 1);
-    while 0 < factors {
+    for _factor in 0..factors {
         // past the words' end there is nothing to look at, whatever the count says
         if words.len() <= end {
             return end;
         }
         end = path_end(words, end);
         end = value_end(left, types, kind, words, end);
-        factors -= 1;
     }
     end
 }
@@ -69,10 +68,8 @@ pub fn record_end(types: &[u16], words: &[u16], at: usize) -> usize
     ensures { RecordEnd types.now words.now at result }
 {
     let mut end = path_end(words, at);
-    let mut variable: usize = 0;
-    while variable < 8 {
+    for variable in 0..8 {
         end = variable_end(variable, types, words, end);
-        variable += 1;
     }
     end
 }

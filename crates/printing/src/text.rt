@@ -1,49 +1,58 @@
 // Text on its way to standard output. It gathers in a buffer, which is written when it is full: a page is one call of the
-// system and not one for each word. A position past the end means a full buffer, so that no caller has to know a bound.
-// Only writing can fail: every error here, and in the files that put lines, is that of the write that failed.
+// system and not one for each word. Only writing can fail: every error here, and in the files that put lines, is that of the write
+// that failed.
+ghost use Rattle.std.specs.Prelude.{◌≡◌, ◌≤◌};
+
 use std::io;
 
-pub type Buffer = [u8; 65536];
+// The first `len` bytes are not yet written.
+#[derive(Drop)]
+pub struct Text {
+    bytes: [u8; 65536],
+    len: usize,
+    ghost fits: { len ≤ 65536 },
+}
 
-// Writes the first n bytes, or all.
-fn write(rt: &impl Print, out: &[u8], n: usize) -> io::Result<()> {
-    if n < out.len() {
-        return rt.write_all(&out[0..n]);
+impl Text {
+    pub fn new() -> Text {
+        Text {
+            bytes: [0; 65536],
+            len: 0,
+        }
     }
-    rt.write_all(out)
-}
 
-// Writes the n bytes out.
-pub fn flush(rt: &impl Print, out: &Buffer, n: usize) -> io::Result<()> {
-    write(rt, out, n)
-}
-
-// Puts a byte behind n others, and gives how many there are then.
-pub fn put_byte(rt: &impl Print, out: &mut Buffer, n: usize, byte: u8) -> io::Result<usize> {
-    if n < 65536 {
-        out[n] = byte;
-        return Ok(n + 1);
+    // Writes what is gathered.
+    pub fn flush(&mut self, rt: &impl Print) -> io::Result<()>
+        ensures { self.new.len ≡ 0 }
+    {
+        let end = self.len;
+        self.len = 0;
+        rt.write_all(&self.bytes[..end])
     }
-    flush(rt, out, n)?;
-    out[0] = byte;
-    Ok(1)
-}
 
-// Puts bytes behind n others.
-pub fn put_text(rt: &impl Print, out: &mut Buffer, n: usize, text: &[u8]) -> io::Result<usize> {
-    let mut end = n;
-    let mut i: usize = 0;
-    while i < text.len() {
-        end = put_byte(rt, out, end, text[i])?;
-        i += 1;
+    // Puts a byte behind the others.
+    pub fn put_byte(&mut self, rt: &impl Print, byte: u8) -> io::Result<()> {
+        if self.len == 65536 {
+            self.flush(rt)?;
+        }
+        self.bytes[self.len] = byte;
+        self.len += 1;
+        Ok(())
     }
-    Ok(end)
-}
 
-// Puts a number in base ten.
-pub fn put_number(rt: &impl Print, out: &mut Buffer, n: usize, number: u64) -> io::Result<usize> {
-    let mut digits = itoa::Buffer::new();
-    put_text(rt, out, n, digits.format(number).as_bytes())
+    // Puts bytes behind the others.
+    pub fn put_bytes(&mut self, rt: &impl Print, bytes: &[u8]) -> io::Result<()> {
+        for byte in bytes {
+            self.put_byte(rt, *byte)?;
+        }
+        Ok(())
+    }
+
+    // Puts a number in base ten.
+    pub fn put_number(&mut self, rt: &impl Print, number: u64) -> io::Result<()> {
+        let mut digits = itoa::Buffer::new();
+        self.put_bytes(rt, digits.format(number).as_bytes())
+    }
 }
 
 // A text by itself.

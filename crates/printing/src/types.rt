@@ -2,58 +2,42 @@
 ghost use Rattle.std.specs.Prelude.{◌<◌};
 
 use crate::places::word_at;
-use crate::text::{Buffer, put_byte, put_number, put_text};
+use crate::text::Text;
 use std::io;
 
 // The six numbers of the type that begins at a place, zeros left off.
-fn put_type(
-    rt: &impl Print,
-    out: &mut Buffer,
-    n: usize,
-    types: &[u16],
-    first: usize,
-) -> io::Result<usize>
+fn put_type(rt: &impl Print, out: &mut Text, types: &[u16], first: usize) -> io::Result<()>
     requires { first < 48 }
 {
-    let mut end = put_number(rt, out, n, word_at(types, first) as u64)?;
-    let mut i: usize = 1;
-    while i < 6 {
+    out.put_number(rt, word_at(types, first) as u64)?;
+    for i in 1..6 {
         let number = word_at(types, first + i);
         if number != 0 {
-            end = put_byte(rt, out, end, b'.')?;
-            end = put_number(rt, out, end, number as u64)?;
+            out.put_byte(rt, b'.')?;
+            out.put_number(rt, number as u64)?;
         }
-        i += 1;
     }
-    Ok(end)
+    Ok(())
 }
 
 // A variable, counted from 0 here, with its type; nothing if it is not used.
-fn put_variable(
-    rt: &impl Print,
-    out: &mut Buffer,
-    n: usize,
-    types: &[u16],
-    variable: usize,
-) -> io::Result<usize>
+fn put_variable(rt: &impl Print, out: &mut Text, types: &[u16], variable: usize) -> io::Result<()>
     requires { variable < 8 }
 {
     if word_at(types, 6 * variable) == 0 {
-        return Ok(n);
+        return Ok(());
     }
-    let mut end = put_byte(rt, out, n, b' ')?;
-    end = put_number(rt, out, end, variable as u64 + 1)?;
-    end = put_byte(rt, out, end, b':')?;
-    put_type(rt, out, end, types, 6 * variable)
+    out.put_byte(rt, b' ')?;
+    out.put_number(rt, variable as u64 + 1)?;
+    out.put_byte(rt, b':')?;
+    put_type(rt, out, types, 6 * variable)
 }
 
 // The first line: the variables present, rising, with their types.
-pub fn put_types(rt: &impl Print, out: &mut Buffer, types: &[u16; 72]) -> io::Result<usize> {
-    let mut end = put_text(rt, out, 0, b"types")?;
-    let mut variable: usize = 0;
-    while variable < 8 {
-        end = put_variable(rt, out, end, types, variable)?;
-        variable += 1;
+pub fn put_types(rt: &impl Print, out: &mut Text, types: &[u16; 72]) -> io::Result<()> {
+    out.put_bytes(rt, b"types")?;
+    for variable in 0..8 {
+        put_variable(rt, out, types, variable)?;
     }
-    put_byte(rt, out, end, b'\n')
+    out.put_byte(rt, b'\n')
 }

@@ -1,19 +1,19 @@
 -- `printing::record_ends::group_end` and `printing::record_ends::value_end` meet their contracts. Assumes nothing.
 use Rattle.std.proofs.Common.{arith}
-use Rattle.printing.proofs.Ends.{end_group, end_maybe, end_none, end_nothing, end_one, factors_done, factors_more, factors_past, factors_start}
+use Rattle.printing.proofs.Ends.{end_group, end_maybe, end_none, end_nothing, end_one, factors_all, factors_more, factors_none, factors_past}
 use Rattle.printing.proofs.record_ends.+group_end_value_end.Goals as goal
 
-pub group_end-loop-factors-init : goal.group_end-loop-factors-init
-group_end-loop-factors-init t c = search (factors_start, arith)
+pub group_end-loop-factor-init : goal.group_end-loop-factor-init
+group_end-loop-factor-init t c = search (factors_all, arith)
 
 pub group_end-returns-then-words-end : goal.group_end-returns-then-words-end
 group_end-returns-then-words-end t c = search (factors_past, arith)
 
-pub group_end-loop-factors-preserved : goal.group_end-loop-factors-preserved
-group_end-loop-factors-preserved t c = search (factors_more, arith)
+pub group_end-loop-factor-preserved : goal.group_end-loop-factor-preserved
+group_end-loop-factor-preserved t c = search (factors_more, arith)
 
 pub group_end-returns : goal.group_end-returns
-group_end-returns t c = search (factors_done, arith)
+group_end-returns t c = search (factors_none, arith)
 
 pub value_end-returns-then-left-eq0 : goal.value_end-returns-then-left-eq0
 value_end-returns-then-left-eq0 t c = search (end_none, arith)

@@ -10,4 +10,4 @@ pub loop-variable-preserved : goal.loop-variable-preserved
 loop-variable-preserved c = search (variables_more, arith)
 
 pub returns : goal.returns
-returns c = search (variables_done, arith)
+returns c = variables_done _ _ _ _ _ (omega arith) c.loop-variable.invariant
