@@ -1,41 +1,22 @@
 // The bookmark's first two words, a length and a start, looked at once in a call.
 ghost use Rattle.bookmarks.specs.Heads.{HeadIs, LengthFrom, StartTurn};
 
-use crate::turn::Turn;
+use crate::turn::{Turn, turn_to};
 use words::wide;
 
-// given: how many of the two the bookmark has; a word that it does not have is 0.
+// Those of the two that the bookmark has.
 #[derive(Clone, Copy)]
 pub struct Head {
-    pub given: usize,
-    pub n: usize,
-    pub u: usize,
+    pub n: Option<usize>,
+    pub u: Option<usize>,
 }
 
 pub fn head_of(bookmark: &[u16]) -> Head
     ensures { HeadIs bookmark.now result }
 {
-    let long = bookmark.len();
-    if long == 0 {
-        return Head {
-            given: 0,
-            n: 0,
-            u: 0,
-        };
-    }
-    let n = wide(bookmark[0]);
-    if long == 1 {
-        return Head {
-            given: 1,
-            n: n,
-            u: 0,
-        };
-    }
-    let u = wide(bookmark[1]);
     Head {
-        given: 2,
-        n: n,
-        u: u,
+        n: bookmark.get(0).map(|w| wide(*w)),
+        u: bookmark.get(1).map(|w| wide(*w)),
     }
 }
 
@@ -44,38 +25,19 @@ impl Head {
     pub fn length_from(self, first: usize) -> usize
         ensures { LengthFrom self first result }
     {
-        if first < self.n {
-            return self.n;
+        match self.n {
+            Some(n) if first < n => n,
+            _ => first,
         }
-        first
     }
 
     // How the records with n edges from u lie to the bookmark.
     pub fn turn(self, n: usize, u: usize) -> Turn
         ensures { StartTurn self n u result }
     {
-        let ahead = Turn {
-            skip: false,
-            on: false,
-        };
-        if self.given == 0 {
-            return ahead;
-        }
-        if n < self.n {
-            return Turn {
-                skip: true,
-                on: false,
-            };
-        }
-        if self.n < n {
-            return ahead;
-        }
-        if self.given == 1 {
-            return ahead;
-        }
-        Turn {
-            skip: u < self.u,
-            on: u == self.u,
+        match turn_to(self.n, n) {
+            Turn::On => turn_to(self.u, u),
+            turn => turn,
         }
     }
 }

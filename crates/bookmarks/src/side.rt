@@ -10,20 +10,11 @@ pub fn lies(bookmark: &[u16], words: &[u16], end: usize) -> Turn
     requires { end ≤ length words.now }
     ensures { Lies bookmark.now (take end words.now) result }
 {
-    let mut i: usize = 0;
-    while i < end {
-        let next = i + 1;
-        let t = turn_at(bookmark, i, wide(words[i]));
-        if t.skip {
-            return t;
+    for (i, w) in words[..end].iter().enumerate() {
+        match turn_at(bookmark, i, wide(*w)) {
+            Turn::On => {}
+            turn => return turn,
         }
-        if !t.on {
-            return t;
-        }
-        i = next;
     }
-    Turn {
-        skip: false,
-        on: true,
-    }
+    Turn::On
 }
