@@ -22,6 +22,9 @@ pub record Grouping (ks : List ℕ) (t from count place left : ℕ) : Type 0 whe
 pub group_start : (ks : List ℕ) (known t from count : ℕ) → known ≤ 20000 → from ≤ known → Grouping ks t from count from count
 group_start ks known t from count h l = record { is = λ τ e. refl; small = omega arith }
 
+pub group_none : (ks : List ℕ) (known t from count : ℕ) → known ≤ 20000 → from ≤ known → Grouping ks t from count from (count - 0)
+group_none ks known t from count h l = let e : count - 0 ≡ count = omega arith in rw e (group_start ks known t from count h l)
+
 pub group_done : (ks : List ℕ) (t from count place left : ℕ) → Grouping ks t from count place left → left ≤ 0 → EndsGroup ks t from count place
 unfolding option_bind iterate
 group_done ks t from count place left g l = record { is = λ τ e. sym (g.is τ e ∙ ends τ left (view_at ks place) (omega arith)); small = g.small }
@@ -56,3 +59,16 @@ module _ (rec : List ℕ) (known t from count place left : ℕ) (in_rec : known 
           let v : view_at (take known rec) (place + size) ≡ skip (2 * edges + 1) us = ap (view_at (take known rec)) z ∙ (sym (view_skip (take known rec) (place + 1) (2 * edges + 1)) ∙ ap (λ (o : Option (List ℕ)). option_bind o (skip (2 * edges + 1))) b) in
           g.is τ e ∙ (ap (λ (o : Option (List ℕ)). option_bind o (iterate left (after_entry (after_value τ)))) a ∙ (one_more left (after_entry (after_value τ)) (get_or rec place 0 ∷ us) n
           ∙ sym (ap (λ (o : Option (List ℕ)). option_bind o (iterate (left - 1) (after_entry (after_value τ)))) (h.is (typed τ) e ∙ (ap (λ (o : Option (List ℕ)). option_bind o (after_value τ)) v ∙ ap (λ (i : ℕ). option_bind (skip (2 * i + 1) us) (after_value τ)) q)))))
+
+-- after i of them
+pub group_next : (rec : List ℕ) (known t from count place i edges size next : ℕ) → known ≤ length rec → known ≤ 20000 → Grouping (take known rec) t from count place (count - i) → i < count → place < known → edges ≡ get_or rec place 0 →
+    size ≡ 2 * edges + 2 → EndsAt (take known rec) t (place + size) next → Grouping (take known rec) t from count next (count - (i + 1))
+group_next rec known t from count place i edges size next k b g n l q s h =
+    let e : count - (i + 1) ≡ count - i - 1 = omega arith in
+    rw e (group_more rec known t from count place (count - i) k b edges size next g (omega arith) l q s h)
+
+pub group_all : (ks : List ℕ) (t from count place i : ℕ) → Grouping ks t from count place (count - i) → count ≤ i → EndsGroup ks t from count place
+group_all ks t from count place i g l = group_done ks t from count place (count - i) g (omega arith)
+
+pub group_past : (rec : List ℕ) (known t from count place i : ℕ) → known ≤ length rec → known ≤ 20000 → Grouping (take known rec) t from count place (count - i) → i < count → known ≤ place → EndsGroup (take known rec) t from count 65535
+group_past rec known t from count place i k b g n l = group_unknown rec known t from count place (count - i) k b g (omega arith) l

@@ -1,9 +1,10 @@
 -- Places made one after another, and places so many words on. Assumes nothing.
+use Rattle.bits.proofs.Cases.{by_ltb}
 use mathlib.Core.Path.{◌∙◌, ◌≡◌, ap, fun_ext, refl, sym}
 use mathlib.Core.List.{List, [], ◌∷◌}
 use mathlib.Core.Option.{Option, none, some}
 use mathlib.Core.Bool.{Bool, false, true}
-use Prim.Native.Nat.{◌+◌, ◌<◌, ◌≤◌, suc, zero, ℕ}
+use Prim.Native.Nat.{◌+◌, ◌<◌, ◌≤◌, suc, zero, ℕ, min}
 use native.Mathlib.Omega.{arith}
 use lib.Dec.{eqb}
 use lib.ListN.{get_or, length, length-set, replicate, set}
@@ -49,11 +50,14 @@ unplaced = record {
 
 -- ------------------------------------------------------------------ shifted
 module _ (at : List ℕ) (by x place : ℕ) (q : place ≡ get_or at x 0) where
-  pub shifted_near : place + by < 65535 → Shifted at by x (place + by)
-  shifted_near l = record { is = λ ks k. ap (λ (p : ℕ). view_at ks (p + by)) q; small = omega arith }
+  pub shifted_is : (r : ℕ) → r ≡ min 65535 (place + by) → Shifted at by x r
+  shifted_is r e = record { is = λ ks k. by_ltb (place + by) 65535 (λ l. near ks l) (λ l. far ks k l); small = omega arith }
+    where
+      near : (ks : List ℕ) → place + by < 65535 → view_at ks r ≡ view_at ks (get_or at x 0 + by)
+      near ks l = let z : r ≡ get_or at x 0 + by = omega arith in ap (view_at ks) z
 
-  pub shifted_far : 65535 ≤ place + by → Shifted at by x 65535
-  shifted_far l = record { is = λ ks k. view_far ks 65535 k ∙ sym (ap (λ (p : ℕ). view_at ks (p + by)) (sym q) ∙ view_far ks (place + by) (omega arith)); small = omega arith }
+      far : (ks : List ℕ) → length ks < 65535 → 65535 ≤ place + by → view_at ks r ≡ view_at ks (get_or at x 0 + by)
+      far ks k l = view_far ks r (omega arith) ∙ sym (view_far ks (get_or at x 0 + by) (omega arith))
 
 -- ------------------------------------------------------------------ a loop that makes places
 -- the places of the variables below x are made as P says

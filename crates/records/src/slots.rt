@@ -45,12 +45,10 @@ pub fn slots_from(rec: &[u16], known: usize, types: &[u64], start: usize) -> Slo
 {
     let mut a = At::none();
     let mut place = start;
-    let mut x: usize = 1;
-    while x < 9 {
+    for x in 1..9 {
         let t = type_of(types, x);
         a = a.with(x, slot(t, place));
         place = slot_end(rec, known, t, place);
-        x += 1;
     }
     Slots { at: a, end: place }
 }

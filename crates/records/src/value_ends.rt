@@ -36,14 +36,12 @@ fn group_end(rec: &[u16], known: usize, t: u64, from: usize, count: usize) -> us
     ensures { EndsGroup (take known rec.now) t from count result }
 {
     let mut place = from;
-    let mut left = count;
-    while 0 < left {
+    for i in 0..count {
         if known <= place {
             return At::NONE;
         }
         let edges = word(rec, place);
         place = value_end(rec, known, t, place + Record::path_words(edges));
-        left -= 1;
     }
     place
 }
@@ -74,10 +72,8 @@ pub fn values_end(rec: &[u16], known: usize, types: &[u64], a: At) -> At
     ensures { EndsAll (take known rec.now) types.now a.at result.at }
 {
     let mut b = At::none();
-    let mut x: usize = 1;
-    while x < 9 {
+    for x in 1..9 {
         b = b.with(x, one_end(rec, known, types, a, x));
-        x += 1;
     }
     b
 }

@@ -1,4 +1,3 @@
-use Prim.Native.Nat.{◌-◌}
 use lib.ListN.{take}
 use Rattle.records.specs.Ends.{EndsOne}
 use Rattle.records.proofs.Moves.{Made}
@@ -6,6 +5,3 @@ use Rattle.records.proofs.value_ends.values_end.Given as goal
 
 abbrev pub invariant-loop-x : goal.invariant-loop-x
 invariant-loop-x l = Made (EndsOne (take l.known l.rec) l.types l.a.at) l.b.at l.x
-
-abbrev pub decreases-loop-x : goal.decreases-loop-x
-decreases-loop-x l = 9 - l.x
