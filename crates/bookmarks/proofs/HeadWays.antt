@@ -17,9 +17,6 @@ use Rattle.bookmarks.proofs.TurnWays.{turned}
 
 -- ------------------------------------------------------------------ length_from
 module _ (h : Head) (first : ℕ) where
-  pub from_first : LengthFrom h first first
-  from_first = record { low = omega arith; behind_is = λ b i m k l. absurd (omega arith) }
-
   pub from_bookmark : {n : ℕ} → h.n ≡ Some n → first < n → LengthFrom h first n
   from_bookmark {n} e l = record {
     low = omega arith;
