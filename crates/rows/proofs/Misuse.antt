@@ -137,5 +137,5 @@ module _ (pattern : List ℕ) (i : ℕ) (r : Row) (d : Reads pattern i r) where
           pub mal_counts : b₃ ≡ false → r.kind ≡ 8 → Tells (fault12 (rows_of pattern)) i (ltb r.s r.r)
           mal_counts n₃ k = record { is = λ h. sym (all h n₃ ∙ ap (λ (b : Bool). not (if b then leb r.r r.s else true)) (eq-eqb r.kind 8 k) ∙ sym (not_le r.s r.r)) }
 
-          pub mal_not : b₃ ≡ false → (r.kind ≡ 8 → ⊥) → Tells (fault12 (rows_of pattern)) i false
-          mal_not n₃ k = record { is = λ h. sym (all h n₃ ∙ ap (λ (b : Bool). not (if b then leb r.r r.s else true)) (ne_eqb r.kind 8 k)) }
+          pub mal_not : b₃ ≡ false → (r.kind ≡ 8 → ⊥) → Tells (fault12 (rows_of pattern)) i (eqb r.kind 8)
+          mal_not n₃ k = record { is = λ h. ne_eqb r.kind 8 k ∙ sym (all h n₃ ∙ ap (λ (b : Bool). not (if b then leb r.r r.s else true)) (ne_eqb r.kind 8 k)) }

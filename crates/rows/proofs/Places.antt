@@ -34,17 +34,14 @@ module _ (i p : ℕ) where
   once_no n = record { is = rw (ne_eqb i p n); small = omega arith }
 
   module _ (q : ℕ) where
-    pub twice_both : i ≡ p → i ≡ q → Twice i p q 2
+    pub twice_sum : (a b : ℕ) → Once i p a → Once i q b → Twice i p q (a + b)
     unfolding times
-    twice_both e f = record { is = rw (eq-eqb i p e, eq-eqb i q f); small = omega arith }
-
-    pub twice_first : i ≡ p → (i ≡ q → ⊥) → Twice i p q 1
-    unfolding times
-    twice_first e n = record { is = rw (eq-eqb i p e, ne_eqb i q n); small = omega arith }
-
-    pub twice_second : (r : ℕ) → (i ≡ p → ⊥) → Once i q r → Twice i p q r
-    unfolding times
-    twice_second r n h = record { is = h.is ∙ rw (ne_eqb i p n); small = omega (arith, h.small) }
+    twice_sum a b g h = record { is = rw (g.is, h.is) (sums (eqb i p) (eqb i q)); small = omega (arith, g.small, h.small) }
+      where
+        sums : (x y : Bool) → (if x then 1 else 0) + (if y then 1 else 0) ≡ (if x then suc (if y then 1 else 0) else (if y then 1 else 0))
+        sums true true = refl
+        sums true false = refl
+        sums false y = omega arith
 
 module _ (k p q : ℕ) where
   parts_two : 5 ≤ k → k < 8 → parts_of k p q ≡ p ∷ q ∷ []

@@ -8,6 +8,7 @@ use borrow.Author.Tests.{le-leb, lt-leb, leb-true}
 use Rattle.std.specs.Prelude.{if◌then◌else◌}
 use Rattle.meaning.proofs.Logic.{no_false}
 use Rattle.rows.specs.Rows.{pattern_kind_lem, condition_kind_lem, sort_of_lem}
+use Rattle.rows.specs.contracts.row.SortPartialEq.TheImpl as derived
 use Rattle.rows.specs.declared.row.Sort.{Sort}
 use Rattle.rows.specs.declared.row.Sort.TheVariants.{Pattern, Condition, Unknown}
 
@@ -93,27 +94,22 @@ told_condition k = go (pattern_kind_lem k) (condition_kind_lem k) refl refl
     go false true e f = refl
     go false false e f = refl
 
-module _ (k : ℕ) (s : Sort) (e : s ≡ sort_of_lem k) where
-  pub is_pattern_law : s ≡ Pattern → true ≡ pattern_kind_lem k
-  unfolding is_pattern_lem
-  is_pattern_law q = ap is_pattern_lem (sym q ∙ e) ∙ told_pattern k
+-- the derived test says the same
+by_pattern : (s : Sort) → (derived.ghosts).eq s Pattern ≡ is_pattern_lem s
+unfolding is_pattern_lem
+by_pattern Pattern = refl
+by_pattern Condition = refl
+by_pattern Unknown = refl
 
-  pub not_pattern_c : s ≡ Condition → false ≡ pattern_kind_lem k
-  unfolding is_pattern_lem
-  not_pattern_c q = ap is_pattern_lem (sym q ∙ e) ∙ told_pattern k
+by_condition : (s : Sort) → (derived.ghosts).eq s Condition ≡ is_condition_lem s
+unfolding is_condition_lem
+by_condition Pattern = refl
+by_condition Condition = refl
+by_condition Unknown = refl
 
-  pub not_pattern_u : s ≡ Unknown → false ≡ pattern_kind_lem k
-  unfolding is_pattern_lem
-  not_pattern_u q = ap is_pattern_lem (sym q ∙ e) ∙ told_pattern k
+module _ (k : ℕ) (s : Sort) (e : s ≡ sort_of_lem k) (r : Bool) where
+  pub is_pattern_law : r ≡ (derived.ghosts).eq s Pattern → r ≡ pattern_kind_lem k
+  is_pattern_law q = q ∙ by_pattern s ∙ ap is_pattern_lem e ∙ told_pattern k
 
-  pub is_condition_law : s ≡ Condition → true ≡ condition_kind_lem k
-  unfolding is_condition_lem
-  is_condition_law q = ap is_condition_lem (sym q ∙ e) ∙ told_condition k
-
-  pub not_condition_p : s ≡ Pattern → false ≡ condition_kind_lem k
-  unfolding is_condition_lem
-  not_condition_p q = ap is_condition_lem (sym q ∙ e) ∙ told_condition k
-
-  pub not_condition_u : s ≡ Unknown → false ≡ condition_kind_lem k
-  unfolding is_condition_lem
-  not_condition_u q = ap is_condition_lem (sym q ∙ e) ∙ told_condition k
+  pub is_condition_law : r ≡ (derived.ghosts).eq s Condition → r ≡ condition_kind_lem k
+  is_condition_law q = q ∙ by_condition s ∙ ap is_condition_lem e ∙ told_condition k

@@ -17,13 +17,7 @@ fn once(i: usize, p: usize) -> usize
 fn twice(i: usize, p: usize, q: usize) -> usize
     ensures { Twice i p q result }
 {
-    if i == p {
-        if i == q {
-            return 2;
-        }
-        return 1;
-    }
-    once(i, q)
+    once(i, p) + once(i, q)
 }
 
 // At how many places row j names row i.

@@ -16,20 +16,8 @@ fn misused(pattern: &[u16], i: usize, usage: u8, n: usize) -> bool
         ZERO => n != 0,
         NAME => 8 < n,
         ANY => false,
-        PART => {
-            if i <= n {
-                return true;
-            }
-            let r = row_at(pattern, n);
-            !is_pattern(r.kind)
-        }
-        TEST => {
-            if i <= n {
-                return true;
-            }
-            let r = row_at(pattern, n);
-            !is_condition(r.kind)
-        }
+        PART => i <= n || !is_pattern(row_at(pattern, n).kind),
+        TEST => i <= n || !is_condition(row_at(pattern, n).kind),
         GIVEN => n == 0 || 8 < n,
         COUNT => 65534 < n,
         _ => true,
@@ -43,6 +31,7 @@ pub fn malformed(pattern: &[u16], i: usize) -> bool
 {
     let r = row_at(pattern, i);
     let kind = r.kind;
+    // early returns: of a chain of `||` over these calls the proof did not close
     if 20 < kind {
         return true;
     }
@@ -58,8 +47,5 @@ pub fn malformed(pattern: &[u16], i: usize) -> bool
     if misused(pattern, i, use_of(kind, 3), r.s) {
         return true;
     }
-    match kind {
-        8 => r.s < r.r,
-        _ => false,
-    }
+    kind == 8 && r.s < r.r
 }

@@ -35,7 +35,7 @@ pub fn row_at(pattern: &[u16], i: usize) -> Row
 }
 
 // What the kind says that a row is.
-#[derive(Clone, Copy)]
+#[derive(Clone, Copy, PartialEq, Eq)]
 pub enum Sort {
     Pattern,
     Condition,
@@ -57,22 +57,12 @@ pub fn sort_of(kind: usize) -> Sort
 pub fn is_pattern(kind: usize) -> bool
     ensures { result ≡ pattern_kind_lem kind }
 {
-    let s = sort_of(kind);
-    match s {
-        Sort::Pattern => true,
-        Sort::Condition => false,
-        Sort::Unknown => false,
-    }
+    sort_of(kind) == Sort::Pattern
 }
 
 // Whether a row of the kind is a condition.
 pub fn is_condition(kind: usize) -> bool
     ensures { result ≡ condition_kind_lem kind }
 {
-    let s = sort_of(kind);
-    match s {
-        Sort::Pattern => false,
-        Sort::Condition => true,
-        Sort::Unknown => false,
-    }
+    sort_of(kind) == Sort::Condition
 }

@@ -2,6 +2,7 @@
 ghost use Rattle.std.specs.Prelude.{◌≡◌, ◌<◌};
 ghost use Rattle.rows.specs.Uses.{use_of_lem};
 
+// The codes are numbers: with an enum in the table the proof of `use_of` did not close (an entry is then no number that antt computes).
 // Not listed for the kind: 0.
 pub const ZERO: u8 = 0;
 // A variable, or 0 for none.

@@ -17,8 +17,8 @@ returns-then-misused-3 c = search (mal_r, arith)
 pub returns-then-misused-4 : goal.returns-then-misused-4
 returns-then-misused-4 c = search (mal_s, arith)
 
-pub returns-in-8 : goal.returns-in-8
-returns-in-8 c = search (mal_counts, arith)
+pub returns-then-kind-eq8 : goal.returns-then-kind-eq8
+returns-then-kind-eq8 c = search (mal_counts, arith)
 
-pub returns-in_default : goal.returns-in_default
-returns-in_default c = search (mal_not, arith)
+pub returns-else-kind-eq8 : goal.returns-else-kind-eq8
+returns-else-kind-eq8 c = search (mal_not, arith)
