@@ -4,12 +4,12 @@
 
 mod base;
 mod path;
-mod tails;
+mod tip;
 mod used;
 mod written;
 
 pub use base::Base;
 pub use path::Path;
-pub use tails::{behind, tail};
+pub use tip::{Change, End};
 pub use used::Used;
 pub use written::{write_beginning, write_path};
