@@ -54,6 +54,7 @@ pub fn union_type(a: u64, b: u64) -> u64
     requires { (a < 262144) × (b < 262144) }
     ensures { Unites a b result }
 {
+    // two tests: of one by `||` the proof does not learn which of both holds
     if a == CLASH {
         return CLASH;
     }
@@ -85,6 +86,7 @@ pub fn joined_type(a: u64, b: u64) -> u64
     if b == 0 {
         return a;
     }
+    // one test after the other: of `a == b && is_single(a)` the proof did not close where it fails
     if a == b {
         if a == NODE {
             return a;
@@ -114,10 +116,7 @@ pub fn repeated_type(a: u64) -> u64
 pub fn is_single(a: u64) -> bool
     ensures { Singles a result }
 {
-    if a == NODE {
-        return true;
-    }
-    a == EDGE
+    a == NODE || a == EDGE
 }
 
 // The type that a node or an edge with the variable y gives to x.

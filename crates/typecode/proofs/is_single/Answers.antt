@@ -5,5 +5,5 @@ use Rattle.typecode.proofs.is_single.Goals as goal
 pub returns-then-a-eq-NODE : goal.returns-then-a-eq-NODE
 returns-then-a-eq-NODE c = search (single_node, arith)
 
-pub returns : goal.returns
-returns c = search (single_edge, arith)
+pub returns-else-a-eq-NODE : goal.returns-else-a-eq-NODE
+returns-else-a-eq-NODE c = search (single_edge, arith)
