@@ -59,8 +59,8 @@ module _ (image : List ℕ) (d : Directory) (l : Listed image d) where
   pub meeting : (m r : Bool) → m ≡ meets d (length image) → m ≡ true → r ≡ whole d → r ≡ good_directory_lem image
   meeting m r e t f = rw (f, ← directory_is, ← e, t)
 
-  pub not_meeting : (m : Bool) → m ≡ meets d (length image) → m ≡ false → false ≡ good_directory_lem image
-  not_meeting m e t = rw (← directory_is, ← e, t)
+  pub not_meeting : (m : Bool) → m ≡ meets d (length image) → m ≡ false → m ≡ good_directory_lem image
+  not_meeting m e t = t ∙ rw (← directory_is, ← e, t)
 
 pub crowded_is : (image : List ℕ) (s : Sections) → Laid image s → crowded s ≡ too_many image
 unfolding too_many

@@ -71,16 +71,10 @@ fn sections_meet(d: Directory, length: usize) -> bool
 fn whole_rows(d: Directory) -> bool
     ensures { result ≡ whole d }
 {
-    if d.nodes.bytes % 2 != 0 {
-        return false;
-    }
-    if d.edges.bytes % 6 != 0 {
-        return false;
-    }
-    if d.labels.bytes % 4 != 0 {
-        return false;
-    }
-    d.properties.bytes % 6 == 0
+    d.nodes.bytes % 2 == 0
+        && d.edges.bytes % 6 == 0
+        && d.labels.bytes % 4 == 0
+        && d.properties.bytes % 6 == 0
 }
 
 // No cause for 2.
@@ -88,8 +82,5 @@ pub fn good_directory(image: &[u8]) -> bool
     ensures { result ≡ good_directory_lem image.now }
 {
     let d = directory_of(image);
-    if sections_meet(d, image.len()) {
-        return whole_rows(d);
-    }
-    false
+    sections_meet(d, image.len()) && whole_rows(d)
 }

@@ -46,10 +46,7 @@ pub fn bad_edge(image: &[u8], s: Sections, i: usize) -> bool
 pub fn pair_less(a: usize, b: usize, c: usize, d: usize) -> bool
     ensures { result ≡ pair_less_lem a b c d }
 {
-    if a == c {
-        return b < d;
-    }
-    a < c
+    if a == c { b < d } else { a < c }
 }
 
 // 6: no element, the label 0, or a pair that does not rise.

@@ -9,5 +9,5 @@ sections_meet-requires c = search (sums_fit, arith)
 pub returns-then-sections_meet : goal.returns-then-sections_meet
 returns-then-sections_meet c = search (meeting, arith)
 
-pub returns : goal.returns
-returns c = search (not_meeting, arith)
+pub returns-else-sections_meet : goal.returns-else-sections_meet
+returns-else-sections_meet c = search (not_meeting, arith)
