@@ -51,20 +51,11 @@ fn sections_meet(d: Directory, length: usize) -> bool
     requires { Small d }
     ensures { result ≡ meets d length }
 {
-    let end = d.properties.at + d.properties.bytes;
-    if d.nodes.at != 16 {
-        return false;
-    }
-    if d.edges.at != d.nodes.at + d.nodes.bytes {
-        return false;
-    }
-    if d.labels.at != d.edges.at + d.edges.bytes {
-        return false;
-    }
-    if d.properties.at != d.labels.at + d.labels.bytes {
-        return false;
-    }
-    length == end
+    d.nodes.at == 16
+        && d.edges.at == d.nodes.at + d.nodes.bytes
+        && d.labels.at == d.edges.at + d.edges.bytes
+        && d.properties.at == d.labels.at + d.labels.bytes
+        && length == d.properties.at + d.properties.bytes
 }
 
 // Each section is whole rows of its own width.

@@ -49,14 +49,5 @@ pub fn sections_of(image: &[u8]) -> Sections
 pub fn too_many(s: Sections) -> bool
     ensures { result ≡ crowded s }
 {
-    if s.nodes.count > 200 {
-        return true;
-    }
-    if s.edges.count > 200 {
-        return true;
-    }
-    if s.labels.count > 800 {
-        return true;
-    }
-    s.properties.count > 2000
+    s.nodes.count > 200 || s.edges.count > 200 || s.labels.count > 800 || s.properties.count > 2000
 }
