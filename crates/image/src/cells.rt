@@ -1,4 +1,4 @@
-// The numbers of a row.
+// The numbers of a row. One function for a section: each is one line, and its promise is another definition of the meaning.
 ghost use Rattle.std.specs.Prelude.{◌≡◌, ◌<◌};
 ghost use Rattle.meaning.specs.Image.{node_cell_lem, edge_cell_lem, label_cell_lem, property_cell_lem};
 ghost use Rattle.image.specs.Sections.{Laid};

@@ -74,7 +74,7 @@ pub fn bad_label(image: &[u8], s: Sections, i: usize) -> bool
     )
 }
 
-// 7: no element, or a pair of element and key that does not rise.
+// 7: no element, or a pair of element and key that does not rise. Not one function with 6: that has the label 0 in the middle.
 pub fn bad_property(image: &[u8], s: Sections, i: usize) -> bool
     requires laid { Laid image.now s }
     requires i_bound { i < 65536 }

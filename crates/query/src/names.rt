@@ -34,6 +34,7 @@ fn bad_name(query: &[u16], i: usize) -> bool
 {
     let part = part_at(query, i);
     let name = part.name;
+    // early returns: `name != 0 && (!is_name(name) || ..)` is one line that has to be read twice
     if name == 0 {
         return false;
     }

@@ -98,7 +98,7 @@ pub fn joined_type(a: u64, b: u64) -> u64
     CLASH
 }
 
-// A repetition makes a type into Group of it.
+// A repetition makes a type into Group of it. Early returns: a `match` on constants is no shorter.
 pub fn repeated_type(a: u64) -> u64
     requires { a < 262144 }
     ensures { Repeats a result }
