@@ -1,11 +1,12 @@
 -- The paths that words begin with: the ways through the code.
 use mathlib.Core.Path.{◌∙◌, ◌≡◌, ap, refl, sym}
 use mathlib.Core.List.{List, [], ◌++◌, ◌∷◌, append_assoc, append-nil}
-use Prim.Native.Nat.{◌*◌, ◌+◌, ◌-◌, ◌<◌, ◌≤◌, suc, ℕ}
+use Prim.Native.Nat.{◌*◌, ◌+◌, ◌-◌, ◌<◌, ◌≤◌, suc, zero, ℕ}
 use native.Mathlib.Omega.{arith}
 use lib.ListN.{drop, get_or, length, length-append, length-drop, take, take-append-drop}
 use lib.Seq.{drop-append_seam, drop_at, drop-cons, drop-drop, get_or-drop, take_at}
-use Rattle.join_judge.specs.Paths.{Begun, HasPath, PathEnd, PathsAre, PathsEnd, SpanIs}
+use Rattle.join_judge.specs.Paths.{Begun, HasPath, PathEnd, PathsAre, PathsEnd, PathsUpTo, SpanIs}
+use Rattle.std.specs.Prelude.{IsSome, None, Option, Some}
 use Rattle.meaning.proofs.Opened.{opened}
 use Rattle.meaning.proofs.QueryReading.{PathsFew, few_left}
 use Rattle.meaning.proofs.Size.{length_places}
@@ -44,27 +45,24 @@ module _ (words : List ℕ) (at : ℕ) where
       next n e = let z : suc at ≡ at + 1 = omega arith in rw (← e, z) refl
 
   -- ---------------------------------------------------------------- one path
-  pub no_word : length words ≤ at → PathEnd words at (length words + 1)
-  no_word h = record {
-    found = λ k. absurd (omega arith);
-    is = λ p t few e. absurd (omega (arith, ap length e, length-drop at words, length-append (path_words_lem p) t, path_length p));
-    high = omega arith;
-  }
+  pub no_word : length words ≤ at → PathEnd words at None
+  no_word h = record { is = λ p t few e. omega (arith, ap length e, length-drop at words, length-append (path_words_lem p) t, path_length p) }
 
-  pub too_many : (last : ℕ) → last ≡ get_or words at 0 → 200 < last → PathEnd words at (length words + 1)
-  too_many last l h = record {
-    found = λ k. absurd (omega arith);
-    is = λ p t few e. absurd (omega (arith, first_at p t e));
-    high = omega arith;
-  }
+  pub too_many : (last : ℕ) → last ≡ get_or words at 0 → 200 < last → PathEnd words at None
+  too_many last l h = record { is = λ p t few e. omega (arith, first_at p t e) }
 
-  pub path_told : (last n : ℕ) → at ≤ length words → last ≡ get_or words at 0 → last ≤ 200 → n ≡ 2 * last + 2 → PathEnd words at (at + n)
-  path_told last n room l h e = record {
-    found = λ k. let p : Walk = spelled (drop (at + 1) words) 0 last in
-        let z : at + (2 * last + 2) ≡ at + n = omega arith in
-        (p, omega (arith, len_spelled (drop (at + 1) words) 0 last), spelled_at last l (omega arith) ∙ ap (λ (i : ℕ). path_words_lem p ++ drop i words) z, omega (arith, path_length p, len_spelled (drop (at + 1) words) 0 last));
-    is = λ p t few q. omega (arith, first_at p t q, path_length p);
-    high = omega arith;
+  pub too_short : (last n : ℕ) → last ≡ get_or words at 0 → n ≡ 2 * last + 2 → length words < at + n → PathEnd words at None
+  too_short last n l e h = record { is = λ p t few q. omega (arith, first_at p t q, path_length p, ap length q, length-drop at words, length-append (path_words_lem p) t) }
+
+  pub path_told : (last n : ℕ) → last ≡ get_or words at 0 → last ≤ 200 → n ≡ 2 * last + 2 → at + n ≤ length words → PathEnd words at (Some (at + n))
+  path_told last n l h e room = record {
+    is = record {
+      within = room;
+      found = let p : Walk = spelled (drop (at + 1) words) 0 last in
+          let z : at + (2 * last + 2) ≡ at + n = omega arith in
+          (p, omega (arith, len_spelled (drop (at + 1) words) 0 last), spelled_at last l (omega arith) ∙ ap (λ (i : ℕ). path_words_lem p ++ drop i words) z, omega (arith, path_length p, len_spelled (drop (at + 1) words) 0 last));
+      is = λ p t few q. omega (arith, first_at p t q, path_length p);
+    };
   }
 
 -- ------------------------------------------------------------------ paths one after another
@@ -97,34 +95,24 @@ reading_none words n = record {
   ahead = λ ps t c few e. (ps, omega arith, few, e, omega arith);
 }
 
-module _ (words : List ℕ) (n i at r : ℕ) (h : Reading words n i at) (l : i < n) (e : PathEnd words at r) where
+module _ (words : List ℕ) (n i at : ℕ) (h : Reading words n i at) (l : i < n) where
   -- the next of the paths ahead
   next : (ps : List Walk) (t : List ℕ) → length ps ≡ n → PathsFew 200 ps → words ≡ each ps path_words_lem ++ t →
-      (qs : List Walk) × (length qs ≡ n - (i + 1)) × PathsFew 200 qs × (drop r words ≡ each qs path_words_lem ++ t) × (r + length (each qs path_words_lem) ≡ length (each ps path_words_lem)) × (r ≤ length words)
+      (p : Walk) × (qs : List Walk) × (length qs ≡ n - (i + 1)) × (len p ≤ 200) × PathsFew 200 qs × (drop at words ≡ path_words_lem p ++ (each qs path_words_lem ++ t)) × (at + length (path_words_lem p) + length (each qs path_words_lem) ≡ length (each ps path_words_lem))
   unfolding each
   next ps t c few q = go (h.ahead ps t c few q)
     where
       go : (qs : List Walk) × (length qs ≡ n - i) × PathsFew 200 qs × (drop at words ≡ each qs path_words_lem ++ t) × (at + length (each qs path_words_lem) ≡ length (each ps path_words_lem)) →
-          (qs : List Walk) × (length qs ≡ n - (i + 1)) × PathsFew 200 qs × (drop r words ≡ each qs path_words_lem ++ t) × (r + length (each qs path_words_lem) ≡ length (each ps path_words_lem)) × (r ≤ length words)
+          (p : Walk) × (qs : List Walk) × (length qs ≡ n - (i + 1)) × (len p ≤ 200) × PathsFew 200 qs × (drop at words ≡ path_words_lem p ++ (each qs path_words_lem ++ t)) × (at + length (path_words_lem p) + length (each qs path_words_lem) ≡ length (each ps path_words_lem))
       go ([], c, f, d, m) = absurd (omega arith)
-      go (p ∷ qs, c, f, d, m) =
-          let d' : drop at words ≡ path_words_lem p ++ (each qs path_words_lem ++ t) = d ∙ append_assoc (path_words_lem p) (each qs path_words_lem) t in
-          let z : r ≡ at + length (path_words_lem p) = e.is p (each qs path_words_lem ++ t) f.0 d' in
-          let s : drop r words ≡ each qs path_words_lem ++ t = ap (λ (k : ℕ). drop k words) z ∙ (sym (drop-drop (length (path_words_lem p)) at words) ∙ (ap (drop (length (path_words_lem p))) d' ∙ drop-append_seam (path_words_lem p) (each qs path_words_lem ++ t))) in (
-            qs,
-            omega arith,
-            f.1,
-            s,
-            omega (arith, length-append (path_words_lem p) (each qs path_words_lem)),
-            omega (arith, ap length d', length-append (path_words_lem p) (each qs path_words_lem ++ t), length-drop at words, h.room),
-          )
+      go (p ∷ qs, c, f, d, m) = (p, qs, omega arith, f.0, f.1, d ∙ append_assoc (path_words_lem p) (each qs path_words_lem) t, omega (arith, length-append (path_words_lem p) (each qs path_words_lem)))
 
-  pub reading_more : r ≤ length words → Reading words n (i + 1) r
-  reading_more k = record {
+  pub reading_more : (r : ℕ) → PathEnd words at (Some r) → Reading words n (i + 1) r
+  reading_more r e = record {
     within = omega arith;
-    room = k;
+    room = e.is.within;
     begun =
-        let (p, few, d, z) = e.found k in
+        let (p, few, d, z) = e.is.found in
         let b = h.begun.paths_are in
         let ps : List Walk = h.begun.paths in
         let both : each (ps ++ p ∷ []) path_words_lem ≡ each ps path_words_lem ++ path_words_lem p = each_append ps (p ∷ []) ∙ ap (λ (w : List ℕ). each ps path_words_lem ++ w) (each_one p) in
@@ -137,31 +125,48 @@ module _ (words : List ℕ) (n i at r : ℕ) (h : Reading words n i at) (l : i <
             end_is = omega (arith, ap length both, length-append (each ps path_words_lem) (path_words_lem p), b.end_is);
           };
         };
-    ahead = λ ps t c few q. let (qs, a, f, d, m, j) = next ps t c few q in (qs, a, f, d, m);
+    ahead = λ ps t c few q.
+        let (p, qs, a, g, f, d, m) = next ps t c few q in
+        let z : r ≡ at + length (path_words_lem p) = e.is.is p (each qs path_words_lem ++ t) g d in
+        (qs, a, f, ap (λ (k : ℕ). drop k words) z ∙ (sym (drop-drop (length (path_words_lem p)) at words) ∙ (ap (drop (length (path_words_lem p))) d ∙ drop-append_seam (path_words_lem p) (each qs path_words_lem ++ t))), omega arith);
   }
 
   -- the words have no further path
-  pub reading_out : length words < r → PathsEnd words n r
-  reading_out k = record {
-    found = λ j. absurd (omega arith);
-    is = λ ps t c few q. let (qs, a, f, d, m, j) = next ps t c few q in absurd (omega arith);
-    high = omega (arith, e.high);
-  }
+  pub reading_out : PathEnd words at None → PathsEnd words n None
+  reading_out e = record { is = λ ps t c few q. let (p, qs, a, g, f, d, m) = next ps t c few q in e.is p (each qs path_words_lem ++ t) g d }
 
-pub reading_all : (words : List ℕ) (n i at : ℕ) → Reading words n i at → n ≤ i → PathsEnd words n at
+pub reading_all : (words : List ℕ) (n i at : ℕ) → Reading words n i at → n ≤ i → PathsEnd words n (Some at)
 unfolding each
 reading_all words n i at h l = record {
-  found = λ k. let z : i ≡ n = omega (arith, h.within) in rw (← z) h.begun;
-  is = λ ps t c few e. go ps (h.ahead ps t c few e);
-  high = omega (arith, h.room);
+  is = record {
+    begun = let z : i ≡ n = omega (arith, h.within) in rw (← z) h.begun;
+    is = λ ps t c few e. go ps (h.ahead ps t c few e);
+  };
 }
   where
     go : (ps : List Walk) {t : List ℕ} → (qs : List Walk) × (length qs ≡ n - i) × PathsFew 200 qs × (drop at words ≡ each qs path_words_lem ++ t) × (at + length (each qs path_words_lem) ≡ length (each ps path_words_lem)) → at ≡ length (each ps path_words_lem)
     go ps ([], c, f, d, m) = omega arith
     go ps (q ∷ qs, c, f, d, m) = absurd (omega arith)
 
+-- where words have a path of number i, they have so many
+cut : (ps : List Walk) (i : ℕ) → i ≤ length ps → (qs : List Walk) × (rs : List Walk) × (ps ≡ qs ++ rs) × (length qs ≡ i)
+cut ps zero h = ([], ps, refl, refl)
+cut [] (suc i) h = absurd (omega arith)
+cut (p ∷ ps) (suc i) h = let (qs, rs, e, c) = cut ps i (omega arith) in (p ∷ qs, rs, ap (λ (k : List Walk). p ∷ k) e, ap suc c)
+
+pub paths_there : {words : List ℕ} {i m : ℕ} {r : Option ℕ} → PathsEnd words m r → HasPath words i → m ≤ i + 1 → IsSome r
+paths_there {words} {i} {m} {r} e h l = go r e
+  where
+    go : (r : Option ℕ) → PathsEnd words m r → IsSome r
+    go None e =
+        let b = h.has.begun.paths_are in
+        let (qs, rs, q, c) = cut h.has.begun.paths m (omega (arith, b.count, h.more)) in
+        absurd (e.is qs (each rs path_words_lem ++ drop h.has.end words) c (few_left 200 qs rs (rw q at b.few))
+        (b.words_are ∙ (ap (λ (z : List Walk). each z path_words_lem ++ drop h.has.end words) q ∙ (ap (λ (z : List ℕ). z ++ drop h.has.end words) (each_append qs rs) ∙ append_assoc (each qs path_words_lem) (each rs path_words_lem) (drop h.has.end words)))))
+    go (Some x) e = refl
+
 -- ------------------------------------------------------------------ the path of number i
-module _ (words : List ℕ) (i from to : ℕ) (before : PathsEnd words i from) (after : PathsEnd words (i + 1) to) where
+module _ (words : List ℕ) (i from to : ℕ) (before : PathsUpTo words i from) (after : PathsUpTo words (i + 1) to) where
   -- where it ends, and that it is the words between
   between : (n end : ℕ) (ps₀ : List Walk) (p : Walk) (ps₁ : List Walk) → PathsAre words n end (ps₀ ++ p ∷ ps₁) → length ps₀ ≡ i →
       (drop from words ≡ path_words_lem p ++ (each ps₁ path_words_lem ++ drop end words)) × (to ≡ from + length (path_words_lem p)) × (to ≤ end) × (end ≤ length words)
@@ -183,8 +188,8 @@ module _ (words : List ℕ) (i from to : ℕ) (before : PathsEnd words i from) (
         omega (arith, h.end_is, ap length h.words_are, length-append (each (ps₀ ++ p ∷ ps₁) path_words_lem) (drop end words)),
       )
 
-  pub span_is : HasPath words i → SpanIs words i from to
-  span_is h =
+  span_of : HasPath words i → SpanIs words i from to
+  span_of h =
       let b = h.has.begun.paths_are in
       let (ps₀, p, ps₁, e, c) = split_at h.has.begun.paths i (omega (arith, b.count, h.more)) in
       let z = between h.count h.has.end ps₀ p ps₁ (rw (← e) b) c in
@@ -198,3 +203,6 @@ module _ (words : List ℕ) (i from to : ℕ) (before : PathsEnd words i from) (
     where
       within : (n end : ℕ) (ps : List Walk) → PathsAre words n end ps → i < n → to ≤ end
       within n end ps h k = let (ps₀, p, ps₁, e, c) = split_at ps i (omega (arith, h.count)) in (between n end ps₀ p ps₁ (rw (← e) h) c).2
+
+pub span_is : {words : List ℕ} {i : ℕ} {before after : Option ℕ} {from to : ℕ} → PathsEnd words i before → PathsEnd words (i + 1) after → before ≡ Some from → after ≡ Some to → HasPath words i → SpanIs words i from to
+span_is {words} {i} {before} {after} {from} {to} b a e q h = let x : PathsEnd words i (Some from) = rw (← e) b in let y : PathsEnd words (i + 1) (Some to) = rw (← q) a in span_of words i from to x.is y.is h

@@ -3,7 +3,7 @@ use mathlib.Core.Path.{◌∙◌, ◌≡◌, ap, sym}
 use mathlib.Core.List.Memᴰ
 use mathlib.Core.List.{List, ◌++◌}
 use mathlib.Core.Option.{some}
-use mathlib.Core.Bool.{Bool, false, true}
+use mathlib.Core.Bool.{Bool, false, not, true}
 use Prim.Native.Nat.{◌<◌, ◌≤◌, ℕ}
 use native.Mathlib.Omega.{arith}
 use lib.ListN.{drop, length, length-append}
@@ -13,6 +13,7 @@ use Rattle.join_judge.proofs.ValueWays.{view_here, view_within}
 use Rattle.join_judge.specs.Judging.{JoinJudges, Laid, PartsJudged, SomeLaid}
 use Rattle.join_judge.specs.Names.{AreNames}
 use Rattle.join_judge.specs.Own.{ValuesEnd}
+use Rattle.std.specs.Prelude.{None, Some}
 use Rattle.join_judge.specs.Paths.{Begun, PathsAre, PathsEnd}
 use Rattle.joins.proofs.Members.{joint_fits}
 use Rattle.joins.proofs.PathLevel.{chosen_length, listed→}
@@ -24,7 +25,7 @@ use Rattle.joins.specs.Projected.{found_in}
 use Rattle.joins.specs.Tails.{tails}
 use Rattle.matcher.proofs.SlotViews.{slots_whole}
 use Rattle.matcher.specs.Records.{after_slots}
-use Rattle.meaning.proofs.Logic.{no_false, some_inj}
+use Rattle.meaning.proofs.Logic.{no_false, not_false, not_true, some_inj}
 use Rattle.meaning.proofs.QueryReading.{PathsFew}
 use Rattle.meaning.specs.Basics.{◌∈◌, each, eight}
 use Rattle.meaning.specs.Graph.{Graph, Walk}
@@ -88,13 +89,11 @@ module _ (graph plans words : List ℕ) (shape : Shape) where
   pub too_long : 20000 < length words → JoinJudges graph plans words shape false
   too_long k = never (λ l planned s m. omega (arith, planned.short words m))
 
-  pub no_paths : (end : ℕ) → PathsEnd words shape.parts end → length words < end → JoinJudges graph plans words shape false
-  no_paths end h k = never (λ l planned s m.
-      let (ps, t, n, few, e) = record_paths graph plans l planned words m in
-      omega (arith, h.is ps t (n ∙ sym s.parts_is) few e, ap length e, length-append (each ps path_words_lem) t))
+  pub no_paths : PathsEnd words shape.parts None → JoinJudges graph plans words shape false
+  no_paths h = never (λ l planned s m. let (ps, t, n, few, e) = record_paths graph plans l planned words m in h.is ps t (n ∙ sym s.parts_is) few e)
 
-  pub paths_begun : (end : ℕ) → PathsEnd words shape.parts end → end ≤ length words → Begun words shape.parts end
-  paths_begun end h k = h.found k
+  pub paths_begun : (end : ℕ) → PathsEnd words shape.parts (Some end) → Begun words shape.parts end
+  paths_begun end h = h.is.begun
 
   -- ---------------------------------------------------------------- the paths end at `end`, the values at `to`
   module _ (end : ℕ) (b : Begun words shape.parts end) where
@@ -116,13 +115,13 @@ module _ (graph plans words : List ℕ) (shape : Shape) where
         pub some_laid : QueryPlanned graph plans shape → SomeLaid graph plans words shape end
         some_laid q = record { query = q.query; paths = b.paths; rest = drop to words; laid = laid q.query q.planned q.shape_is }
 
-        pub other_names : (r : Bool) → AreNames words shape to r → r ≡ false → JoinJudges graph plans words shape false
-        other_names r n e = never (λ l planned s m. n.no_is e end l b.paths s b.paths_are
+        pub other_names : (r : Bool) → AreNames words shape to r → not r ≡ true → JoinJudges graph plans words shape false
+        other_names r n e = never (λ l planned s m. n.no_is (not_true r e) end l b.paths s b.paths_are
             (some_inj (sym (whole l s) ∙ record_ends graph plans l planned words shape.parts end s.parts_is b.paths b.paths_are m)))
 
-        pub parts_decide : (r v : Bool) → AreNames words shape to r → r ≡ true → PartsJudged graph plans words shape end v → JoinJudges graph plans words shape v
+        pub parts_decide : (r v : Bool) → AreNames words shape to r → not r ≡ false → PartsJudged graph plans words shape end v → JoinJudges graph plans words shape v
         parts_decide r v n e j = record {
           yes_is = λ y l planned s. whole_record graph plans l planned words shape.parts end s.parts_is b.paths b.paths_are
-              (whole l s ∙ ap some (n.yes_is e end l b.paths s b.paths_are)) (j.yes_is y l b.paths (drop to words) (laid l planned s));
+              (whole l s ∙ ap some (n.yes_is (not_false r e) end l b.paths s b.paths_are)) (j.yes_is y l b.paths (drop to words) (laid l planned s));
           no_is = λ y l planned s m. j.no_is y l b.paths (drop to words) (laid l planned s) (record_whole graph plans l planned words shape.parts end s.parts_is b.paths b.paths_are m);
         }

@@ -1,15 +1,19 @@
 -- The paths that words begin with: each is a count of edges, at most 200 (01), and as many places.
-use Rattle.std.specs.Prelude.{◌≡◌, List, ◌++◌, ◌∷◌, ◌+◌, ◌-◌, ◌<◌, ◌≤◌, ℕ, drop, length, take}
+use Rattle.std.specs.Prelude.{MatchOption, Option, ◌≡◌, List, ◌++◌, ◌∷◌, ◌+◌, ◌-◌, ◌<◌, ◌≤◌, ℕ, drop, length, take}
 use Rattle.meaning.proofs.QueryReading.{PathsFew}
 use Rattle.meaning.specs.Basics.{each}
 use Rattle.meaning.specs.Graph.{Walk, len}
 use Rattle.meaning.specs.Record.{path_words_lem}
 
--- r is where the path ends that stands at `at`; past the words if none stands there
-pub record PathEnd (words : List ℕ) (at r : ℕ) : Type 0 where
-  pub found : r ≤ length words → (p : Walk) × (len p ≤ 200) × (drop at words ≡ path_words_lem p ++ drop r words) × (r ≡ at + length (path_words_lem p))
-  pub is : (p : Walk) (t : List ℕ) → len p ≤ 200 → drop at words ≡ path_words_lem p ++ t → r ≡ at + length (path_words_lem p)
-  pub high : r ≤ length words + 402
+-- a path stands at `at`, and ends at end
+pub record PathUpTo (words : List ℕ) (at end : ℕ) : Type 0 where
+  pub within : end ≤ length words
+  pub found : (p : Walk) × (len p ≤ 200) × (drop at words ≡ path_words_lem p ++ drop end words) × (end ≡ at + length (path_words_lem p))
+  pub is : (p : Walk) (t : List ℕ) → len p ≤ 200 → drop at words ≡ path_words_lem p ++ t → end ≡ at + length (path_words_lem p)
+
+-- it ends at r; none: no path stands there
+pub record PathEnd (words : List ℕ) (at : ℕ) (r : Option ℕ) : Type 0 where
+  pub is : MatchOption r ((p : Walk) (t : List ℕ) → len p ≤ 200 → drop at words ≡ path_words_lem p ++ t → ⊥) (PathUpTo words at)
 
 -- ps are the first n paths of the words, and end where they end
 pub record PathsAre (words : List ℕ) (n end : ℕ) (ps : List Walk) : Type 0 where
@@ -34,11 +38,14 @@ pub record HasPath (words : List ℕ) (i : ℕ) : Type 0 where
   pub more : i < count
   pub has : HasPaths words count
 
--- r is where the first n paths end; past the words if they have no such paths
-pub record PathsEnd (words : List ℕ) (n r : ℕ) : Type 0 where
-  pub found : r ≤ length words → Begun words n r
-  pub is : (ps : List Walk) (t : List ℕ) → length ps ≡ n → PathsFew 200 ps → words ≡ each ps path_words_lem ++ t → r ≡ length (each ps path_words_lem)
-  pub high : r ≤ length words + 402
+-- the first n paths end at end
+pub record PathsUpTo (words : List ℕ) (n end : ℕ) : Type 0 where
+  pub begun : Begun words n end
+  pub is : (ps : List Walk) (t : List ℕ) → length ps ≡ n → PathsFew 200 ps → words ≡ each ps path_words_lem ++ t → end ≡ length (each ps path_words_lem)
+
+-- they end at r; none: there are no such paths
+pub record PathsEnd (words : List ℕ) (n : ℕ) (r : Option ℕ) : Type 0 where
+  pub is : MatchOption r ((ps : List Walk) (t : List ℕ) → length ps ≡ n → PathsFew 200 ps → words ≡ each ps path_words_lem ++ t → ⊥) (PathsUpTo words n)
 
 -- the words from `from` to `to` are the path of number i
 pub record SpanIs (words : List ℕ) (i from to : ℕ) : Type 0 where

@@ -13,10 +13,8 @@ fn append(own: &mut [u16], words: &[u16], n: usize, s: Span) -> usize
     requires { Fits own.old words.now n s.from s.to }
     ensures { Appended own.old words.now n s.from s.to own.new result }
 {
-    let from = s.from;
-    let to = s.to;
-    copy_at(own, n, &words[from..to]);
-    n + (to - from)
+    copy_at(own, n, &words[s.from..s.to]);
+    n + (s.to - s.from)
 }
 
 // The same if they are the value of x, and the part uses x.
@@ -42,25 +40,12 @@ pub fn write_own(
     requires { PlanReady plan.now × SomeValued words.now shape.types start × (length words.now ≤ 20000) × (length own.old ≡ 20000) × (path.from ≤ path.to) × (path.to ≤ start) × (start ≤ length words.now) }
     ensures { OwnWritten plan.now words.now shape.types path.from path.to start own.new result }
 {
-    let types = shape.types;
     let mut n = append(own, words, 0, path);
     let mut place = start;
-    let mut x: usize = 1;
-    while x < 9 {
-        let to = value_to(words, types[x], place);
-        n = append_value(
-            plan,
-            own,
-            words,
-            x,
-            n,
-            Span {
-                from: place,
-                to: to,
-            },
-        );
+    for x in 1..9 {
+        let to = value_to(words, shape.types[x], place);
+        n = append_value(plan, own, words, x, n, Span { from: place, to });
         place = to;
-        x += 1;
     }
     n
 }

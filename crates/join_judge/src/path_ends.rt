@@ -4,37 +4,35 @@ ghost use Rattle.join_judge.specs.Paths.{HasPath, PathEnd, PathsEnd, SpanIs};
 
 use records::{Record, word};
 
-// Where the path that begins at `at` ends; past the words if they have no such path.
-fn path_end(words: &[u16], at: usize) -> usize
+// Where the path that begins at `at` ends, if the words have one there.
+fn path_end(words: &[u16], at: usize) -> Option<usize>
     requires { (length words.now ≤ 20000) × (at ≤ length words.now) }
     ensures { PathEnd words.now at result }
 {
-    let none = words.len() + 1;
     if words.len() <= at {
-        return none;
+        return None;
     }
     let last = word(words, at);
     if 200 < last {
-        return none;
+        return None;
     }
-    at + Record::path_words(last)
+    let end = at + Record::path_words(last);
+    if words.len() < end {
+        return None;
+    }
+    Some(end)
 }
 
-// Where the first n paths end; past the words if they have no such paths.
-pub fn paths_end(words: &[u16], n: usize) -> usize
+// Where the first n paths end, if the words have so many.
+pub fn paths_end(words: &[u16], n: usize) -> Option<usize>
     requires { length words.now ≤ 20000 }
     ensures { PathsEnd words.now n result }
 {
-    let mut at: usize = 0;
-    let mut i: usize = 0;
-    while i < n {
-        at = path_end(words, at);
-        if words.len() < at {
-            return at;
-        }
-        i += 1;
+    let mut at = 0;
+    for _i in 0..n {
+        at = path_end(words, at)?;
     }
-    at
+    Some(at)
 }
 
 // Where a path begins and ends.
@@ -49,8 +47,10 @@ pub fn path_at(words: &[u16], i: usize) -> Span
     requires { (length words.now ≤ 20000) × HasPath words.now i × (i < 4) }
     ensures { SpanIs words.now i result.from result.to }
 {
+    let from = paths_end(words, i);
+    let to = paths_end(words, i + 1);
     Span {
-        from: paths_end(words, i),
-        to: paths_end(words, i + 1),
+        from: from.unwrap(),
+        to: to.unwrap(),
     }
 }

@@ -42,12 +42,10 @@ fn judge_parts(
     requires { SomeLaid graph.now plans.now words.now shape end × (length words.now ≤ 20000) × (length work.old ≡ 20000) }
     ensures { PartsJudged graph.now plans.now words.now shape end result }
 {
-    let mut i: usize = 0;
-    while i < shape.parts {
+    for i in 0..shape.parts {
         if !judge_part(graph, plans, words, shape, end, i, work) {
             return false;
         }
-        i += 1;
     }
     true
 }
@@ -68,10 +66,10 @@ fn judge_values(
     if words.len() < to {
         return false;
     }
-    if are_names(words, shape, to) {
-        return judge_parts(graph, plans, words, shape, end, work);
+    if !are_names(words, shape, to) {
+        return false;
     }
-    false
+    judge_parts(graph, plans, words, shape, end, work)
 }
 
 // Whether the words are a record of the join. No record has more than 20,000 words.
@@ -82,9 +80,8 @@ pub fn judge(graph: &[u64], plans: &[u64], words: &[u16], shape: Shape, work: &m
     if Record::WORK < words.len() {
         return false;
     }
-    let end = paths_end(words, shape.parts);
-    if words.len() < end {
-        return false;
+    match paths_end(words, shape.parts) {
+        Some(end) => judge_values(graph, plans, words, shape, end, work),
+        None => false,
     }
-    judge_values(graph, plans, words, shape, end, work)
 }

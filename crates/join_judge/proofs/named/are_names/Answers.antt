@@ -1,16 +1,10 @@
 -- `join_judge::named::are_names` meets its contract. Assumes nothing.
 use native.Mathlib.Omega.{arith}
-use Rattle.join_judge.proofs.NameWays.{naming_all, naming_more, naming_none, naming_out}
+use Rattle.join_judge.proofs.NameWays.{names_behind, names_differ}
 use Rattle.join_judge.proofs.named.are_names.Goals as goal
 
-pub loop-x-init : goal.loop-x-init
-loop-x-init c = search (naming_none, arith)
+pub returns-in-Some : goal.returns-in-Some
+returns-in-Some c = let f = c.in-Some.ensures in search (names_behind, arith)
 
-pub returns-then-not-a : goal.returns-then-not-a
-returns-then-not-a c = search (naming_out, arith)
-
-pub loop-x-preserved : goal.loop-x-preserved
-loop-x-preserved c = search (naming_more, arith)
-
-pub returns : goal.returns
-returns c = search (naming_all, arith)
+pub returns-in-None : goal.returns-in-None
+returns-in-None c = let f = c.in-None.ensures in search (names_differ, arith)

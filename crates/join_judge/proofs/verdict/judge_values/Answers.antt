@@ -16,8 +16,8 @@ are_names-requires c = search (begun_inside, rules)
 pub judge_parts-requires : goal.judge_parts-requires
 judge_parts-requires c = search (some_laid, rules)
 
-pub returns-then-are_names : goal.returns-then-are_names
-returns-then-are_names c = search (parts_decide, arith)
+pub returns-then-not-are_names : goal.returns-then-not-are_names
+returns-then-not-are_names c = search (other_names, arith)
 
 pub returns : goal.returns
-returns c = search (other_names, arith)
+returns c = search (parts_decide, arith)
