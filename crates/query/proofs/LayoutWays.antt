@@ -1,14 +1,14 @@
 -- The ways through the functions that look up the layout.
 use mathlib.Core.Path.{◌∙◌, ◌≡◌, ap, refl, sym}
 use mathlib.Core.List.{List, [], ◌∷◌, ◌++◌}
-use mathlib.Core.Bool.{false, true, not}
+use mathlib.Core.Bool.{Bool, false, true, not}
 use Prim.Native.Nat.{ℕ, suc, ◌+◌, ◌-◌, ◌*◌, ◌<◌, ◌≤◌}
 use native.Mathlib.Numerals.{add-one}
 use native.Mathlib.Omega.{arith}
 use lib.Dec.{eqb, ltb}
 use lib.ListN.{drop, get_or, length}
 use lib.Seq.{get_or_at, get_or-drop}
-use borrow.Author.Tests.{eq-eqb, le-leb, lt-leb, ltb-true, ne_eqb}
+use borrow.Author.Tests.{eq-eqb, eqb-false, eqb-true, le-leb, lt-leb, ltb-true, ne_eqb}
 use Rattle.meaning.specs.QueryWords.{Part, bad_layout_lem, lengths_of, parts_of}
 use Rattle.query.proofs.PartLaws.{Laid, laid_by, laid_part, lengths_more, lengths_rise}
 use Rattle.query.specs.Parts.{PartIs, PartsCounted, StartIs, part_in}
@@ -65,19 +65,26 @@ layout_short [] n e g h l = refl
 layout_short (m ∷ w) n e g h l = sym (counted m w (omega arith) (omega arith) ∙ ap not (ne_eqb (length w) (3 * m + lengths_of m w) (λ z. omega arith)))
 
 module _ (query : List ℕ) (n s : ℕ) (some_word : length query ≡ 0 → ⊥) (e : n ≡ get_or query 0 0) (g : 1 ≤ n) (h : n ≤ 4) (start : StartIs query n n s) where
-  pub layout_whole : s ≡ length query → false ≡ bad_layout_lem query
+  layout_whole : s ≡ length query → false ≡ bad_layout_lem query
   layout_whole = go query some_word e start.is
     where
       go : (v : List ℕ) → (length v ≡ 0 → ⊥) → n ≡ get_or v 0 0 → s ≡ 1 + 3 * n + lengths_of n (drop 1 v) → s ≡ length v → false ≡ bad_layout_lem v
       go [] x e k z = absurd (x refl)
       go (m ∷ w) x e k z = let f : lengths_of n w ≡ lengths_of m w = ap (λ (j : ℕ). lengths_of j w) e in sym (counted m w (omega arith) (omega arith) ∙ ap not (eq-eqb (length w) (3 * m + lengths_of m w) (omega arith)))
 
-  pub layout_other : (s ≡ length query → ⊥) → true ≡ bad_layout_lem query
+  layout_other : (s ≡ length query → ⊥) → true ≡ bad_layout_lem query
   layout_other = go query some_word e start.is
     where
       go : (v : List ℕ) → (length v ≡ 0 → ⊥) → n ≡ get_or v 0 0 → s ≡ 1 + 3 * n + lengths_of n (drop 1 v) → (s ≡ length v → ⊥) → true ≡ bad_layout_lem v
       go [] x e k z = absurd (x refl)
       go (m ∷ w) x e k z = let f : lengths_of n w ≡ lengths_of m w = ap (λ (j : ℕ). lengths_of j w) e in sym (counted m w (omega arith) (omega arith) ∙ ap not (ne_eqb (length w) (3 * m + lengths_of m w) (λ y. z (omega arith))))
+
+  pub layout_told : not (eqb s (length query)) ≡ bad_layout_lem query
+  layout_told = told (eqb s (length query)) refl
+    where
+      told : (b : Bool) → eqb s (length query) ≡ b → not b ≡ bad_layout_lem query
+      told true q = layout_whole (eqb-true s (length query) q)
+      told false q = layout_other (eqb-false s (length query) q)
 
 -- ------------------------------------------------------------------ parts and part_at
 module _ (query : List ℕ) (ok : bad_layout_lem query ≡ false) where

@@ -43,10 +43,7 @@ pub fn bad_layout(query: &[u16]) -> bool
     if query.len() < 1 + 3 * n {
         return true;
     }
-    if pattern_start(query, n, n) == query.len() {
-        return false;
-    }
-    true
+    pattern_start(query, n, n) != query.len()
 }
 
 // How many parts there are.

@@ -1,4 +1,4 @@
-use Rattle.query.proofs.LayoutWays.{layout_empty, layout_none, layout_many, layout_short, layout_whole, layout_other}
+use Rattle.query.proofs.LayoutWays.{layout_empty, layout_none, layout_many, layout_short, layout_told}
 use native.Mathlib.Omega.{arith}
 use Rattle.query.proofs.layout.bad_layout.Goals as goal
 
@@ -14,8 +14,5 @@ returns-then-n-gt4 c = search (layout_many, arith)
 pub returns-then-query-n : goal.returns-then-query-n
 returns-then-query-n c = search (layout_short, arith)
 
-pub returns-then-pattern_start-query : goal.returns-then-pattern_start-query
-returns-then-pattern_start-query c = search (layout_whole, arith)
-
 pub returns : goal.returns
-returns c = search (layout_other, arith)
+returns c = search (layout_told, arith)
