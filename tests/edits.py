@@ -34,8 +34,8 @@ def slips(name, path):
     for old in re.findall(r"(?m)^old: (.*)$", text):
         if source.count(old) != 1:
             yield f"{name}: what it replaces stands {source.count(old)} times in {file}"
-    # of Rattle, words of the language and what is told by its type are known everywhere
-    known = set(WORD.findall(source)) | ({"true", "false"} if file.endswith(".rt") else set())
+    # of Rattle, words of the language and of its prelude and what is told by its type are known everywhere
+    known = set(WORD.findall(source)) | ({"true", "false", "Some", "None", "Ok", "Err"} if file.endswith(".rt") else set())
     for new in re.findall(r"(?m)^new: (.*)$", text):
         for word in set(WORD.findall(re.sub(r"(\.|::)\w+", "", new) if file.endswith(".rt") else new)) - known:
             yield f"{name}: {file} has no {word}"

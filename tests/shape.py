@@ -13,7 +13,7 @@ MOST_PARAMETERS, MANY_PARAMETERS, OVER_MANY, MOST_LINES = 12, 8, 40, 40
 READERS = {"image", "compiled", "calls", "gpc", "gpc_c", "printing", "listing", "examples"}
 # places and sizes of the compiled words (crates/compiled/src/derived.rt); 8, 64 and the like are too common to look for
 LAYOUT = re.compile(r"(?<![\w.])(226|328|391|392|904|1008|1928|2128|2328|2528|3008)(?![\w.])")
-HEAD = re.compile(r'^( *)(?:pub )?(?:extern "C" )?fn (\w+)\s*\(', re.M)
+HEAD = re.compile(r'^( *)(?:pub )?(?:extern "C" )?fn (\w+)\s*(?:<[^>(]*>)?\(', re.M)
 
 
 def functions(text):
@@ -23,11 +23,23 @@ def functions(text):
         while depth:
             depth += {"(": 1, ")": -1}.get(text[i], 0)
             i += 1
-        parameters = [p.strip() for p in text[head.end():i - 1].split(",") if p.strip()]
+        parameters = [p.strip() for p in split(text[head.end():i - 1]) if p.strip()]
         end = text.index("\n" + head.group(1) + "}", i)
         body = re.sub(r"//.*", "", text[text.index("\n" + head.group(1) + "{", i - 1) if "\n" + head.group(1) + "{" in text[i - 1:end] else text.index("{", i):end])
         lines = [l for l in text[head.start():end].split("\n") if l.strip() and not re.match(r"\s*(requires|ensures)\b", l)]
         yield head.group(2), parameters, len(lines) + 1, body
+
+
+def split(parameters):
+    """The parameters, at the commas that stand in no brackets."""
+    depth, parts = 0, [""]
+    for c in parameters:
+        depth += (c in "(<[") - (c in ")>]")
+        if c == "," and depth == 0:
+            parts.append("")
+        else:
+            parts[-1] += c
+    return parts
 
 
 def reads_source(parameter):
