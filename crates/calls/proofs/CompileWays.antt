@@ -8,7 +8,7 @@ use native.Mathlib.Omega.{arith}
 use lib.Dec.{eqb}
 use lib.ListN.{drop, get_or, length, length-append, length-drop, length-set, set, take}
 use lib.Seq.{get_or-set_other, get_or-set_same, length-take-le}
-use borrow.Author.Tests.{eqb-false, eqb-true}
+use borrow.Author.Tests.{eqb-false, eqb-true, ne_eqb}
 use Rattle.bounds.specs.Lengths.{LengthsFilled}
 use Rattle.calls.specs.Called.{Completed, NamesOf, PlanOf, PlansOf, TypesOf, is_alone_lem}
 use Rattle.compiled.specs.Copies.{PartFilled}
@@ -170,9 +170,9 @@ module _ (query types : List ℕ) (x : ℕ) (b : TypesBelow query types x) where
 
 -- ------------------------------------------------------------------ is_alone
 module _ (query : List ℕ) (n : ℕ) (c : PartsCounted query n) where
-  pub alone_not : (n ≡ 1 → ⊥) → false ≡ is_alone_lem (parts_of query)
+  pub alone_not : (n ≡ 1 → ⊥) → eqb n 1 ≡ is_alone_lem (parts_of query)
   unfolding is_alone_lem
-  alone_not h = go (parts_of query) c.is
+  alone_not h = ne_eqb n 1 h ∙ go (parts_of query) c.is
     where
       go : (l : List Part) → n ≡ length l → false ≡ is_alone_lem l
       go [] e = refl

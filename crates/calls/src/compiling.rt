@@ -58,12 +58,10 @@ pub fn compile_parts(query: &[u16], graph: &[u64], plans: &mut [u64], listed: bo
     ensures { PlansOf query.now graph.now plans.new }
 {
     let n = parts(query);
-    let mut i: usize = 0;
-    while i < n {
+    for i in 0..n {
         let from = i * PLAN_WORDS;
         let to = from + PLAN_WORDS;
         compile_part(query, i, graph, &mut plans[from..to], listed);
-        i += 1;
     }
 }
 
@@ -74,11 +72,9 @@ fn names_of(query: &[u16]) -> [u16; 4]
 {
     let n = parts(query);
     let mut names = [0u16; 4];
-    let mut i: usize = 0;
-    while i < n {
+    for i in 0..n {
         let p = part_at(query, i);
         names[i] = p.name as u16;
-        i += 1;
     }
     names
 }
@@ -89,10 +85,8 @@ fn types_of(query: &[u16]) -> [u64; 9]
     ensures { TypesOf query.now result }
 {
     let mut types = [0u64; 9];
-    let mut x: usize = 1;
-    while x < 9 {
+    for x in 1..9 {
         types[x] = type_code(query, x);
-        x += 1;
     }
     types
 }
@@ -116,9 +110,5 @@ pub fn is_alone(query: &[u16]) -> bool
     requires { bad_layout_lem query.now ≡ false }
     ensures { result ≡ is_alone_lem (parts_of query.now) }
 {
-    if parts(query) == 1 {
-        let p = part_at(query, 0);
-        return p.name == 0;
-    }
-    false
+    parts(query) == 1 && part_at(query, 0).name == 0
 }

@@ -5,5 +5,5 @@ use Rattle.calls.proofs.compiling.is_alone.Goals as goal
 pub returns-then-parts-eq1 : goal.returns-then-parts-eq1
 returns-then-parts-eq1 c = search (alone_by_name, arith)
 
-pub returns : goal.returns
-returns c = search (alone_not, arith)
+pub returns-else-parts-eq1 : goal.returns-else-parts-eq1
+returns-else-parts-eq1 c = search (alone_not, arith)
