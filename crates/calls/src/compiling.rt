@@ -100,8 +100,8 @@ pub fn shape_of(query: &[u16]) -> Shape
     let types = types_of(query);
     Shape {
         parts: parts(query),
-        names: names,
-        types: types,
+        names,
+        types,
     }
 }
 

@@ -39,10 +39,10 @@ pub fn directory_of(image: &[u8]) -> Directory
     let labels = section(image, 2);
     let properties = section(image, 3);
     Directory {
-        nodes: nodes,
-        edges: edges,
-        labels: labels,
-        properties: properties,
+        nodes,
+        edges,
+        labels,
+        properties,
     }
 }
 

@@ -9,6 +9,7 @@ use crate::named::are_names;
 use crate::own::write_own;
 use crate::path_ends::{path_at, paths_end};
 use parts::{Shape, plan_of};
+use plan::Compiled;
 use records::Record;
 
 // Whether the own words of the part i are a record of it. The paths end at `end`.
@@ -27,7 +28,7 @@ fn judge_part(
     let mut own = [0u16; 20000];
     let plan = plan_of(plans, i);
     let n = write_own(plan, &mut own, words, shape, path_at(words, i), end);
-    judge::judge(graph, plan, &own[0..n], work)
+    judge::judge(Compiled { graph, plan }, &own[0..n], work)
 }
 
 // Whether those of each part are.

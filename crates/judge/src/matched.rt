@@ -5,17 +5,18 @@ ghost use Rattle.plan.specs.Ready.{Prepared};
 
 use compiled::rows;
 use oracle::{known_slots, path_ends};
+use plan::Compiled;
 
 // The values end where the words end, and the end of the path is an end of a match with them.
-pub fn matches(graph: &[u64], plan: &[u64], fit: &[u64], rec: &[u16], last: usize) -> bool
-    requires { Prepared graph.now plan.now fit.now rec.now (length rec.now) last }
-    ensures { Matches graph.now plan.now rec.now last result }
+pub fn matches(of: Compiled<'_>, fit: &[u64], rec: &[u16], last: usize) -> bool
+    requires { Prepared of.graph.now of.plan.now fit.now rec.now (length rec.now) last }
+    ensures { Matches of.entry.graph.now of.entry.plan.now rec.now last result }
 {
     let known = rec.len();
-    let row = rows(plan) - 1;
-    let slots = known_slots(plan, rec, known, last, row);
+    let row = rows(of.plan) - 1;
+    let slots = known_slots(of.plan, rec, known, last, row);
     if slots.end != known {
         return false;
     }
-    path_ends(graph, plan, fit, rec, known, last)
+    path_ends(of, fit, rec, known, last)
 }

@@ -5,26 +5,26 @@ ghost use Rattle.judge.specs.Judging.{NoneShorter};
 ghost use Rattle.plan.specs.Ready.{Ready};
 
 use bounds::lengths_of;
+use plan::Compiled;
 use walk::joins;
 
 // Whether no answer with fewer than n edges leads from u to v; no match has a length that is not asked.
 pub fn none_shorter(
-    graph: &[u64],
-    plan: &[u64],
+    of: Compiled<'_>,
     fit: &mut [u64],
     work: &mut [u16],
     n: usize,
     u: u16,
     v: u16,
 ) -> bool
-    requires { Ready graph.now plan.now × (401 ≤ length fit.old) × (length work.old ≡ 20000) × (n ≤ 200) × (u < nodes_in_lem graph.now) × (v < 256) }
-    ensures { NoneShorter graph.now plan.now n u v result }
+    requires { (401 ≤ length fit.old) × (length work.old ≡ 20000) × (n ≤ 200) × (u < nodes_in_lem of.graph.now) × (v < 256) }
+    ensures { NoneShorter of.entry.graph.now of.entry.plan.now n u v result }
 {
-    let lengths = lengths_of(plan);
+    let lengths = lengths_of(of.plan);
     let mut m = lengths.least(0);
     while m < n {
         let next = m + 1;
-        if joins(graph, plan, fit, work, m, u, v) {
+        if joins(of, fit, work, m, u, v) {
             return false;
         }
         m = lengths.least(next);

@@ -66,9 +66,9 @@ pub fn part_at(query: &[u16], i: usize) -> Part
     let name = wide(query[at + 1]);
     let long = wide(query[at + 2]);
     Part {
-        restrictor: restrictor,
-        name: name,
-        from: from,
+        restrictor,
+        name,
+        from,
         to: from + long,
     }
 }

@@ -25,13 +25,7 @@ pub fn row_at(pattern: &[u16], i: usize) -> Row
     let q = wide(pattern[at + 2]);
     let r = wide(pattern[at + 3]);
     let s = wide(pattern[at + 4]);
-    Row {
-        kind: kind,
-        p: p,
-        q: q,
-        r: r,
-        s: s,
-    }
+    Row { kind, p, q, r, s }
 }
 
 // What the kind says that a row is.
