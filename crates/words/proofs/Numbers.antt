@@ -1,14 +1,11 @@
 -- A number's two bytes, and what stands past the end.
-use mathlib.Core.Path.{◌≡◌, sym}
+use mathlib.Core.Path.{◌≡◌}
 use mathlib.Core.List.{List}
 use Prim.Native.Nat.{ℕ, suc, ◌+◌, ◌*◌, ◌≤◌}
 use native.Mathlib.Numerals.{add-one}
 use native.Mathlib.Omega.{arith}
 use lib.ListN.{length, get_or, get_or-eq_default}
 use Rattle.meaning.specs.Image.{number}
-
-pub past : (b : List ℕ) (at : ℕ) → length b ≤ at → 0 ≡ get_or b at 0
-past b at h = sym (get_or-eq_default b 0 h)
 
 pub number_past : (b : List ℕ) (at : ℕ) → length b ≤ at → 0 ≡ number b at
 unfolding number
