@@ -3,13 +3,12 @@ use mathlib.Core.Path.{◌≡◌, refl, sym, ap, ◌∙◌}
 use mathlib.Core.Bool.{Bool, ◌&&◌, true, false, not}
 use mathlib.Core.Option.{none, some}
 use mathlib.Core.List.{List, [], ◌++◌, ◌∷◌}
-use Prim.Native.Nat.{ℕ, zero, suc, ◌<◌, ◌≤◌}
-use mathlib.Core.Logic.{◌⊎◌, inl, inr}
+use Prim.Native.Nat.{ℕ, zero, suc, ◌≤◌}
 use native.Mathlib.Omega.{arith}
 use lib.Dec.{ltb}
 use lib.ListN.{drop, length, replicate}
 use borrow.Author.Tests.{le-ltb, leb-true, ltb-false}
-use Rattle.meaning.proofs.Logic.{and_both, either, no_false, no_true, not_false, not_true}
+use Rattle.meaning.proofs.Logic.{and_both, no_false, no_true, not_false, not_true}
 use Rattle.meaning.specs.Basics.{first_of, rowless}
 use Rattle.meaning.specs.Basics.{Cause as Fault}
 use Rattle.meaning.specs.Operations.{JudgeLeft, judge_unless}
