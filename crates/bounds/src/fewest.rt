@@ -6,7 +6,8 @@ ghost use Rattle.compiled.specs.Parts.{Tabled, table_in};
 use crate::numbers::{product, smaller, sum};
 use compiled::row_at;
 
-// The least number for the row's pattern.
+// The least number for the row's pattern. Not one with `most`: three of five arms differ, so that a common function would have as many
+// closures as arms.
 pub fn least(row: usize, plan: &[u64]) -> usize
     requires { Tabled plan.now × Stands (table_in plan.now) row }
     ensures { Fewest (table_in plan.now) row result }

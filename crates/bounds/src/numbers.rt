@@ -2,7 +2,7 @@
 ghost use Rattle.std.specs.Prelude.{◌≤◌, ◌+◌, ◌*◌};
 ghost use Rattle.bounds.specs.Numbers.{Capped, Greater, Smaller};
 
-// Any number from 65535 on.
+// Any number from 65535 on: not an Option, since the words of a table hold 65535 for no bound, and `Capped` cuts every sum at it.
 pub const END: usize = 65535;
 
 // The number, or END if it is greater.

@@ -7,12 +7,10 @@ pub fn nodes_within(rec: &[u16], last: usize, count: usize) -> bool
     requires { Told rec.now last }
     ensures { NodesWithin rec.now last count result }
 {
-    let mut i: usize = 0;
-    while i <= last {
+    for i in 0..last + 1 {
         if count <= word(rec, 2 * i + 1) {
             return false;
         }
-        i += 1;
     }
     true
 }

@@ -8,14 +8,12 @@ pub fn repeats_nothing(rec: &[u16], last: usize, base: Base) -> bool
     ensures { RepeatsNothing rec.now last base result }
 {
     let mut used = Used::start(rec[1]);
-    let mut i: usize = 0;
-    while i < last {
+    for i in 0..last {
         let k = 2 * i + 2;
         let e = rec[k];
         let v = rec[k + 1];
         if used.allows(base, e, v) {
             used = used.stepped(e, v);
-            i += 1;
         } else {
             return false;
         }

@@ -21,13 +21,13 @@ pub fn none_shorter(
     ensures { NoneShorter of.entry.graph.now of.entry.plan.now n u v result }
 {
     let lengths = lengths_of(of.plan);
-    let mut m = lengths.least(0);
-    while m < n {
-        let next = m + 1;
+    for m in lengths.iter() {
+        if n <= m {
+            break;
+        }
         if joins(of, fit, work, m, u, v) {
             return false;
         }
-        m = lengths.least(next);
     }
     true
 }
