@@ -10,8 +10,8 @@ path_at-requires c = search (path_there, rules)
 pub write_own-n-requires : goal.write_own-n-requires
 write_own-n-requires c = search (plan_ready, some_valued, path_before, paths_inside, rules)
 
-pub judge-requires : goal.judge-requires
-judge-requires c = search (part_ready, rules)
+pub invariant_of-judge : goal.invariant_of-judge
+invariant_of-judge c = search (part_ready, rules)
 
 pub returns : goal.returns
 returns c = search (part_judged, arith)
