@@ -6,8 +6,8 @@ use Rattle.calls.proofs.judging.judge_alone.Goals as goal
 pub compile_part-requires : goal.compile_part-requires
 compile_part-requires c = (search (call_accepted, arith), search (call_some, arith), search (call_lawful, arith), search rules)
 
-pub judge-requires : goal.judge-requires
-judge-requires c = (search (alone_ready, arith), search rules)
+pub invariant_of-judge : goal.invariant_of-judge
+invariant_of-judge c = search (alone_ready, arith)
 
 pub returns : goal.returns
 returns c = search (alone_judged, arith)

@@ -8,7 +8,7 @@ pub returns-then-not-is_shortest : goal.returns-then-not-is_shortest
 returns-then-not-is_shortest c = search (any_length, arith)
 
 pub none_shorter-requires : goal.none_shorter-requires
-none_shorter-requires c = (search rules, search rules, search rules, search rules, search (first_node, arith), search (last_node, arith))
+none_shorter-requires c = (search rules, search rules, search rules, search (first_node, arith), search (last_node, arith))
 
 pub returns-then-repeats_nothing : goal.returns-then-repeats_nothing
 returns-then-repeats_nothing c = search (shortest_is, arith)
