@@ -1,32 +1,31 @@
 -- The sets that are made of a number, and what one number changes. Assumes nothing.
-use mathlib.Core.Path.{◌≡◌, refl, sym, ap, ap₂, ◌∙◌, fun_ext}
+use mathlib.Core.Path.{◌≡◌, sym, ap, ap₂, ◌∙◌, fun_ext}
 use mathlib.Core.Bool.{Bool, false, not, ◌&&◌, ◌||◌, or_comm, and-false}
 use mathlib.Core.List.{List, [], ◌∷◌}
 use Prim.Native.Nat.{ℕ, ◌+◌, ◌-◌, ◌*◌, ◌/◌, ◌%◌, ◌<◌, ◌≤◌}
 use native.Mathlib.Omega.{arith}
 use lib.Dec.{eqb, ltb}
-use lib.ListN.{get_or, set}
-use lib.Seq.{get_or-set_other, get_or-set_same}
+use lib.ListN.{get_or}
 use borrow.Author.Tests.{lt-ltb, le-ltb, ne_eqb}
-use Rattle.bits.specs.Sets.{bit, set_of, only, below, insert, remove, unite, minus}
-use Rattle.bits.proofs.Cases.{by_ltb, by_eqb, same_ltb, same_eqb}
+use Rattle.bits.specs.Sets.{bit, set_of, Part, only, below, insert, remove, unite, minus}
+use Rattle.bits.proofs.Cases.{by_ltb, same_ltb, same_eqb}
 use Rattle.bits.proofs.Bits.{bit_zero}
-use Rattle.bits.proofs.Words.{empty_words, set_by, set_out, each_word}
+use Rattle.bits.proofs.Words.{set_by, set_out, each_word}
 
 -- ---- one number
 
 -- the word i of the set of k, where x is the mask of k % 64
-single_bit : (k x i t : ℕ) → k < 256 → i < 4 → t < 64 → bit x ≡ only 64 (k % 64) → bit (get_or (set (0 ∷ 0 ∷ 0 ∷ 0 ∷ []) (k / 64) x) i 0) t ≡ only 256 k (i * 64 + t)
-single_bit k x i t m h l e =
-    by_eqb (k / 64) i
-    (λ z.
-    ap (λ (n : ℕ). bit (get_or (set (0 ∷ 0 ∷ 0 ∷ 0 ∷ []) n x) i 0) t) z ∙ ap (λ (n : ℕ). bit n t) (get_or-set_same (0 ∷ 0 ∷ 0 ∷ 0 ∷ []) i x 0 h)
-    ∙ ap (λ (S : ℕ → Bool). S t) e
-    ∙ ap₂ ◌&&◌ (lt-ltb (k % 64) 64 (omega arith) ∙ sym (lt-ltb k 256 (omega arith)))
-    (same_eqb t (k % 64) (i * 64 + t) k (λ p. omega arith) (λ p. omega arith)))
-    (λ z.
-    ap (λ (n : ℕ). bit n t) (get_or-set_other (0 ∷ 0 ∷ 0 ∷ 0 ∷ []) (k / 64) i x 0 (λ p. z (sym p)) ∙ each_word (λ n. ◌≡◌ {A = ℕ} (get_or (0 ∷ 0 ∷ 0 ∷ 0 ∷ []) n 0) 0) refl refl refl refl i h) ∙ bit_zero t
-    ∙ sym (ap (λ (b : Bool). ltb k 256 && b) (ne_eqb (i * 64 + t) k (λ p. z (omega arith))) ∙ and-false (ltb k 256)))
+pub part_here : (k i x : ℕ) → i < 4 → bit x ≡ only 64 (k % 64) → k / 64 ≡ i → Part (only 256 k) i x
+part_here k i x h e z = record {
+  bits = λ t l.
+      ap (λ (S : ℕ → Bool). S t) e ∙ ap₂ ◌&&◌ (lt-ltb (k % 64) 64 (omega arith) ∙ sym (lt-ltb k 256 (omega arith)))
+      (same_eqb t (k % 64) (i * 64 + t) k (λ p. omega arith) (λ p. omega arith));
+}
+
+pub part_away : (k i : ℕ) → (k / 64 ≡ i → ⊥) → Part (only 256 k) i 0
+part_away k i z = record {
+  bits = λ t l. bit_zero t ∙ sym (ap (λ (b : Bool). ltb k 256 && b) (ne_eqb (i * 64 + t) k (λ p. z (omega arith))) ∙ and-false (ltb k 256));
+}
 
 only_out : (k j : ℕ) → 256 ≤ j → only 256 k j ≡ false
 only_out k j h =
@@ -34,11 +33,11 @@ only_out k j h =
     (λ l. ap (λ (b : Bool). ltb k 256 && b) (ne_eqb j k (λ p. absurd (omega arith))) ∙ and-false (ltb k 256))
     (λ l. ap (λ (b : Bool). b && eqb j k) (le-ltb k 256 l))
 
-pub single_words : (k x : ℕ) → k < 256 → bit x ≡ only 64 (k % 64) → set_of (set (0 ∷ 0 ∷ 0 ∷ 0 ∷ []) (k / 64) x) ≡ only 256 k
-single_words k x m e = set_by (set (0 ∷ 0 ∷ 0 ∷ 0 ∷ []) (k / 64) x) (only 256 k) (λ i t h l. single_bit k x i t m h l e) (only_out k)
-
-pub single_far : (k : ℕ) → 256 ≤ k → set_of (0 ∷ 0 ∷ 0 ∷ 0 ∷ []) ≡ only 256 k
-single_far k m = empty_words ∙ fun_ext (λ j. sym (ap (λ (b : Bool). b && eqb j k) (le-ltb k 256 m)))
+pub single_words : (k a b c d : ℕ) → Part (only 256 k) 0 a → Part (only 256 k) 1 b → Part (only 256 k) 2 c → Part (only 256 k) 3 d → set_of (a ∷ b ∷ c ∷ d ∷ []) ≡ only 256 k
+single_words k a b c d p q r s =
+    set_by (a ∷ b ∷ c ∷ d ∷ []) (only 256 k)
+    (λ i t h l. (each_word (λ i. Part (only 256 k) i (get_or (a ∷ b ∷ c ∷ d ∷ []) i 0)) p q r s i h).bits t l)
+    (only_out k)
 
 pub with_words : (r s w : List ℕ) (k : ℕ) → set_of s ≡ only 256 k → set_of r ≡ unite (set_of w) (set_of s) → set_of r ≡ insert (set_of w) k
 with_words r s w k e q = q ∙ fun_ext (λ j. or_comm (set_of w j) (set_of s j) ∙ ap (λ (S : ℕ → Bool). S j || set_of w j) e)

@@ -9,10 +9,11 @@ use lib.Count.{count_trailing_zeros, under}
 use lib.Dec.{eqb}
 use lib.ListN.{get_or}
 use lib.Pow.{shr_le}
+use Rattle.std.specs.Prelude.{Option, None, Some}
 use mir.Syntax.{w64}
 use mir.Val.{Fits}
 use borrow.Author.Tests.{eqb-false}
-use Rattle.bits.specs.Sets.{bit, set_of, Least}
+use Rattle.bits.specs.Sets.{bit, set_of, Least, LeastMember}
 use Rattle.bits.proofs.Cases.{by_ltb}
 use Rattle.bits.proofs.Bits.{bit_first, bit_suc, bit_shr, bit_below, bit_zero}
 use Rattle.bits.proofs.Words.{set_at}
@@ -90,22 +91,17 @@ from_word w k d h l =
 
 module _ (w : List ℕ) {from k : ℕ} (s : Seeking (set_of w) from k) (x : ℕ) (h : k < 256) (e : x ≡ get_or w (k / 64) 0 / 2 ^ (k % 64)) where
   -- a word with nothing from k on is passed
-  pub seek_more : x ≡ 0 → Seeking (set_of w) from ((k / 64 + 1) * 64)
+  pub seek_more : x ≡ 0 → Seeking (set_of w) from (64 * (k / 64 + 1))
   seek_more z = record { start = omega (arith, s.start); passed = λ j f l. by_ltb j k (s.passed j f) (rest j l) }
     where
-      rest : (j : ℕ) → j < (k / 64 + 1) * 64 → k ≤ j → set_of w j ≡ false
+      rest : (j : ℕ) → j < 64 * (k / 64 + 1) → k ≤ j → set_of w j ≡ false
       rest j l p =
           let y : j ≡ k + (j - k) = omega arith in
           ap (set_of w) y ∙ from_word w k (j - k) h (omega arith) ∙ ap (λ (n : ℕ). bit n (j - k)) (sym e ∙ z) ∙ bit_zero (j - k)
 
   -- else its least bit is the answer
-  pub seek_hit : (r : ℕ) → ((i : ℕ) → Fits w64 (get_or w i 0)) → (x ≡ 0 → ⊥) → Least (bit x) 64 0 r → Least (set_of w) 256 from (k + r)
-  seek_hit r f z m = record {
-    within = omega (arith, inside);
-    after = omega (arith, s.start);
-    hit = λ l. from_word w k r h inside ∙ ap (λ (n : ℕ). bit n r) (sym e) ∙ m.hit below;
-    before = λ j g l. by_ltb j k (s.passed j g) (rest j l);
-  }
+  pub seek_hit : (r : ℕ) → ((i : ℕ) → Fits w64 (get_or w i 0)) → (x ≡ 0 → ⊥) → Least (bit x) 64 0 r → LeastMember (set_of w) from (Some (k + r))
+  seek_hit r f z m = (found, omega (arith, inside))
     where
       small : x < 2 ^ 64
       small = omega (arith, e, (f (k / 64)).fits, shr_le (get_or w (k / 64) 0) (k % 64))
@@ -121,3 +117,44 @@ module _ (w : List ℕ) {from k : ℕ} (s : Seeking (set_of w) from k) (x : ℕ)
           let y : j ≡ k + (j - k) = omega arith in
           let v : k % 64 + r < 64 = inside in
           ap (set_of w) y ∙ from_word w k (j - k) h (omega arith) ∙ ap (λ (n : ℕ). bit n (j - k)) (sym e) ∙ m.before (j - k) (omega arith) (omega arith)
+
+      found : Least (set_of w) 256 from (k + r)
+      found = record {
+        within = omega (arith, inside);
+        after = omega (arith, s.start);
+        hit = λ l. from_word w k r h inside ∙ ap (λ (n : ℕ). bit n r) (sym e) ∙ m.hit below;
+        before = λ j g l. by_ltb j k (s.passed j g) (rest j l);
+      }
+
+-- what is sought past the numbers that are passed
+pub seek_on : {S : ℕ → Bool} {from k : ℕ} (o : Option ℕ) → Seeking S from k → LeastMember S k o → LeastMember S from o
+seek_on {S} {from} {k} o s = go o
+  where
+    least : (r : ℕ) → Least S 256 k r → Least S 256 from r
+    least r m = record {
+      within = m.within;
+      after = omega (arith, s.start, m.after);
+      hit = m.hit;
+      before = λ j f l. by_ltb j k (s.passed j f) (λ h. m.before j h l);
+    }
+
+    go : (o : Option ℕ) → LeastMember S k o → LeastMember S from o
+    go None m = least 256 m
+    go (Some r) m = (least r m.0, m.1)
+
+-- ---- word by word
+
+module _ (w : List ℕ) {from i : ℕ} (s : Seeking (set_of w) from (64 * i)) (h : i < 4) where
+  whole : get_or w i 0 ≡ get_or w (64 * i / 64) 0 / 2 ^ (64 * i % 64)
+  whole =
+      let d : 64 * i / 64 ≡ i = omega arith in
+      let m : 64 * i % 64 ≡ 0 = omega arith in
+      rw (d, m) (omega arith)
+
+  pub word_more : get_or w i 0 ≡ 0 → Seeking (set_of w) from (64 * (i + 1))
+  word_more z =
+      let e : 64 * (64 * i / 64 + 1) ≡ 64 * (i + 1) = omega arith in
+      rw e at (seek_more w s (get_or w i 0) (omega arith) whole z)
+
+  pub word_hit : (r : ℕ) → ((i : ℕ) → Fits w64 (get_or w i 0)) → (get_or w i 0 ≡ 0 → ⊥) → Least (bit (get_or w i 0)) 64 0 r → LeastMember (set_of w) from (Some (64 * i + r))
+  word_hit = seek_hit w s (get_or w i 0) (omega arith) whole

@@ -1,6 +1,6 @@
 -- What a mask means, as a set of numbers, and what the operations on masks give. Assumes nothing: these are definitions.
 -- A set is a test, ℕ → Bool. Laws are in proofs/.
-use Rattle.std.specs.Prelude.{◌≡◌, Bool, true, false, not, ◌&&◌, ◌||◌, List, ℕ, zero, suc, ◌/◌, ◌%◌, ◌^◌, ◌<◌, ◌≤◌, min, eqb, ltb, get_or}
+use Rattle.std.specs.Prelude.{◌≡◌, Option, None, Some, Bool, true, false, not, ◌&&◌, ◌||◌, List, ℕ, zero, suc, ◌+◌, ◌*◌, ◌/◌, ◌%◌, ◌^◌, ◌<◌, ◌≤◌, min, eqb, ltb, get_or}
 
 -- ---- masks
 
@@ -59,6 +59,11 @@ pub record Least (S : ℕ → Bool) (end from r : ℕ) : Type 0 where
   pub hit : r < end → S r ≡ true
   pub before : (j : ℕ) → from ≤ j → j < r → S j ≡ false
 
+-- the least number of S from `from` on is given, below 256; or there is none
+abbrev pub LeastMember : (ℕ → Bool) → ℕ → Option ℕ → Type 0
+LeastMember S from None = Least S 256 from 256
+LeastMember S from (Some k) = Least S 256 from k × (k < 256)
+
 -- r tells whether S is empty
 pub record Empty (S : ℕ → Bool) (r : Bool) : Type 0 where
   pub yes : r ≡ true → S ≡ none
@@ -67,3 +72,7 @@ pub record Empty (S : ℕ → Bool) (r : Bool) : Type 0 where
 -- R holds of the words of a, b and r at each place
 pub record ByWords (R : ℕ → ℕ → ℕ → Type 0) (a b r : List ℕ) : Type 0 where
   pub at : (i : ℕ) → i < 4 → R (get_or a i 0) (get_or b i 0) (get_or r i 0)
+
+-- x is the word i of words that spell the set S
+pub record Part (S : ℕ → Bool) (i x : ℕ) : Type 0 where
+  pub bits : (t : ℕ) → t < 64 → bit x t ≡ S (i * 64 + t)

@@ -5,8 +5,8 @@
 mod members;
 mod stored;
 
-ghost use Rattle.std.specs.Prelude.{◌≡◌};
-ghost use Rattle.bits.specs.Sets.{bit, set_of, none, only, below, unite, meet, minus, up, insert, remove, Least, Empty, ByWords};
+ghost use Rattle.std.specs.Prelude.{◌≡◌, ◌*◌, ◌<◌};
+ghost use Rattle.bits.specs.Sets.{bit, set_of, none, only, below, unite, meet, minus, up, insert, remove, Least, LeastMember, Empty, ByWords, Part};
 
 pub use members::Members;
 pub use stored::{put_set, set_at};
@@ -32,11 +32,9 @@ impl Set {
     pub fn single(k: usize) -> Self
         ensures { set_of result.w ≡ only 256 k }
     {
-        let mut w = [0; 4];
-        if k < Set::END {
-            w[k / 64] = one(k % 64);
+        Set {
+            w: [part(k, 0), part(k, 1), part(k, 2), part(k, 3)],
         }
-        Set { w }
     }
 
     // All numbers below n that a set can hold.
@@ -136,16 +134,35 @@ impl Set {
     pub fn least(self, from: usize) -> usize
         ensures { Least (set_of self.w) 256 from result }
     {
-        let mut k = from;
-        while k < Set::END {
-            let i = k / 64;
-            let x = self.w[i] >> (k % 64);
-            if x != 0 {
-                return k + lowest(x);
-            }
-            k = (i + 1) * 64;
+        self.member_from(from).unwrap_or(Set::END)
+    }
+
+    // The least member at or after from. By reference: an iterator asks it of one set again and again.
+    fn member_from(&self, from: usize) -> Option<usize>
+        ensures { LeastMember (set_of self.now.w) from result }
+    {
+        if Set::END <= from {
+            return None;
         }
-        Set::END
+        let i = from / 64;
+        let x = self.w[i] >> (from % 64);
+        if x != 0 {
+            return Some(from + lowest(x));
+        }
+        self.member_in(i + 1)
+    }
+
+    // The least member in the words from n on.
+    fn member_in(&self, n: usize) -> Option<usize>
+        ensures { LeastMember (set_of self.now.w) (64 * n) result }
+    {
+        for i in n..4 {
+            let x = self.w[i];
+            if x != 0 {
+                return Some(64 * i + lowest(x));
+            }
+        }
+        None
     }
 
     // The members in turn, rising.
@@ -154,6 +171,14 @@ impl Set {
     {
         Members { set: self, from: 0 }
     }
+}
+
+// The word i of the set of k alone. Made in a register: a set whose word is stored alone stalls where the four are read at once.
+fn part(k: usize, i: usize) -> u64
+    requires { i < 4 }
+    ensures { Part (only 256 k) i result }
+{
+    if k / 64 == i { one(k % 64) } else { 0 }
 }
 
 // The bit k of a mask of one word.

@@ -19,10 +19,7 @@ impl Iterator for Members {
     ghost remaining = { members_left };
 
     fn next(&mut self) -> Option<usize> {
-        let k = self.set.least(self.from);
-        if Set::END <= k {
-            return None;
-        }
+        let k = self.set.member_from(self.from)?;
         self.from = k + 1;
         Some(k)
     }
