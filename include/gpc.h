@@ -10,7 +10,7 @@
  *     to call, a bookmark and a sitting, is the host's. So calls may run side by side on different memory.
  *   - Pieces of 16-bit words are aligned as uint16_t is.
  *   - A call takes less than GPC_STACK_BYTES of stack. That is measured where calls go deepest (four parts of 200 edges, groups two
- *     deep: 631,128 bytes) and not proved.
+ *     deep: 664,448 bytes) and not proved.
  *
  * The report
  *   Reported numbers are written into the first 64 bytes of the report area, as eight 64-bit numbers, low byte first. GPC_REPORT_...
